@@ -1,0 +1,4 @@
+pub mod Direction
+pub mod Extents
+pub mod Refusals
+pub mod Ios
