@@ -1,0 +1,4 @@
+pub mod Meaning
+pub mod Bays
+pub mod Sweeps
+pub mod Devices

@@ -1,0 +1,19 @@
+use mathlib.Core.Path.{_∙_, ap}
+use lib.ListN.{drop}
+use Rattle.seek.proofs.Splitting.{passed-more, found-before, found-after, never-before, never-after}
+use Rattle.seek.proofs.request.split.Needs as need
+
+pub returns-then-line-i-eq32 : need.returns-then-line-i-eq32
+returns-then-line-i-eq32 c =
+    let e = c .if-line-i-eq32 .taken in
+    let first = c .split-at .ensures in
+    let second = c .split-at-then-line-i-eq32 .ensures in (
+      first .front ∙ found-before _ _ (c .loop-i-test .taken) (c .loop-i .inv) e,
+      second .back ∙ (ap (drop 1) (first .back) ∙ found-after _ _ (c .loop-i-test .taken) (c .loop-i .inv) e),
+    )
+
+pub loop-i-again : need.loop-i-again
+loop-i-again c = passed-more _ _ (c .loop-i-test .taken) (c .loop-i .inv) (c .if-line-i-eq32 .left)
+
+pub returns : need.returns
+returns c = (never-before _ _ (c .loop-i-test .left) (c .loop-i .inv), never-after _ _ (c .loop-i-test .left) (c .loop-i .inv))

@@ -1,0 +1,3 @@
+// What the program sweep does: reading requests, serving them through a device, and the arm's way.
+pub mod request;
+pub mod travel;
