@@ -1,3 +1,4 @@
 pub mod Numerals
 pub mod Requests
 pub mod Travel
+pub mod Courses

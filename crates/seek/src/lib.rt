@@ -1,3 +1,4 @@
 // What the program sweep does: reading requests, serving them through a device, and the arm's way.
 pub mod request;
+pub mod serve;
 pub mod travel;
