@@ -2,3 +2,4 @@ pub mod Direction
 pub mod Extents
 pub mod Refusals
 pub mod Ios
+pub mod Rates

@@ -2,4 +2,6 @@
 pub mod direction;
 pub mod extent;
 pub mod fault;
+pub mod instant;
 pub mod io;
+pub mod rates;
