@@ -4,7 +4,6 @@ ghost use Prim.Native.Nat.{_+_, _<_, _≤_, min};
 ghost use lib.Dec.{eqb};
 ghost use lib.ListN.{length, getD};
 ghost use denote.Ref.{name, now};
-ghost use Rattle.std.specs.declared.option.Option.the-variants.{Some, None};
 ghost use Rattle.std.specs.shelf.Lists.{removed};
 ghost use Rattle.line.specs.Line.{recordsOf, unflagged, Appended, Closed, Removed, AppendedAt, RemovedAt};
 
@@ -17,19 +16,8 @@ pub struct Line<'a, T> {
 }
 
 impl<'a, T: Copy> Line<'a, T> {
-    // The line over the first `len` places; none where the table has fewer.
-    pub fn new(places: &'a mut [T], len: usize) -> Option<Line<'a, T>>
-        ensures { λ r. ⌜ elim r [ Some l ↦ (name (l .places) ≡ name (places .entry)) × (now (l .places) ≡ now (places .entry)) × (l .len ≡ len) | None ↦ length (now (places .entry)) < len ] ⌝ }
-    {
-        if places.len() < len {
-            return None;
-        }
-        Some(Line::filled(places, len))
-    }
-
-    // The line over the first `len` places, or over all where the table has fewer. Its caller knows the table
-    // afterwards, which no caller of `new` does: a reference inside an `Option` is not followed to its lender.
-    pub fn filled(places: &'a mut [T], len: usize) -> Line<'a, T>
+    // The line over the first `len` places, or over all where the table has fewer.
+    pub fn new(places: &'a mut [T], len: usize) -> Line<'a, T>
         ensures same { λ l. ⌜ name (l .places) ≡ name (places .entry) ⌝ }
         ensures held { λ l. ⌜ (now (l .places) ≡ now (places .entry)) × (l .len ≡ min len (length (now (places .entry)))) ⌝ }
     {
@@ -140,7 +128,7 @@ pub fn append_at<T: Copy>(places: &mut [T], len: usize, record: T) -> bool
     if places.len() <= len {
         return false;
     }
-    let mut line = Line::filled(places, len);
+    let mut line = Line::new(places, len);
     line.append(record)
 }
 
@@ -151,6 +139,6 @@ pub fn remove_at<T: Copy>(places: &mut [T], len: usize, at: usize) -> Option<T>
     if len > places.len() {
         return None;
     }
-    let mut line = Line::filled(places, len);
+    let mut line = Line::new(places, len);
     line.remove(at)
 }

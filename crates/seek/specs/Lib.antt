@@ -1,4 +1,5 @@
 pub mod Numerals
 pub mod Requests
+pub mod Texts
 pub mod Travel
 pub mod Courses

@@ -1,7 +1,7 @@
 ghost use Prim.Native.Nat.{ℕ, _+_, _-_, _*_, _^_, _<_, _≤_, min};
 ghost use mathlib.Core.Path.{_≡_};
 ghost use Rattle.seek.specs.Numerals.{isDigit, numeral};
-ghost use Rattle.seek.specs.Requests.{beforeSpace, afterSpace, judged, requested};
+ghost use Rattle.seek.specs.Requests.{beforeFirst, afterFirst, judged, requested, faultText};
 ghost use Rattle.std.specs.Options.{mapped};
 ghost use Rattle.std.specs.Results.{Cases};
 ghost use Rattle.std.specs.declared.result.Result.the-variants.{Ok, Err};
@@ -13,6 +13,19 @@ pub enum LineFault {
     NotTwoNumbers,
     LengthOutOfRange,
     PastTheEnd,
+}
+
+impl LineFault {
+    // What is told of the fault.
+    pub fn text(self) -> &'static str
+        ensures { λ r. ⌜ now r ≡ faultText self ⌝ }
+    {
+        match self {
+            LineFault::NotTwoNumbers => "expected ADDRESS LENGTH, two decimal numbers and one space between them",
+            LineFault::LengthOutOfRange => "LENGTH is not 1 to 64",
+            LineFault::PastTheEnd => "ADDRESS + LENGTH is above 4294967295",
+        }
+    }
 }
 
 // A digit behind a number. Numbers from 4,294,967,296 on are alike, since they are past every address.
@@ -49,18 +62,18 @@ fn decimal(text: &[u8]) -> Option<u64>
     Some(number)
 }
 
-// The parts of a line before and after its first space.
-fn split(line: &[u8]) -> (&[u8], &[u8])
-    ensures { λ r. ⌜ (now (r .0) ≡ beforeSpace (now (line .entry))) × (now (r .1) ≡ afterSpace (now (line .entry))) ⌝ }
+// The parts of a text before and after its first byte of a kind.
+pub(crate) fn split(text: &[u8], mark: u8) -> (&[u8], &[u8])
+    ensures { λ r. ⌜ (now (r .0) ≡ beforeFirst mark (now (text .entry))) × (now (r .1) ≡ afterFirst mark (now (text .entry))) ⌝ }
 {
-    for i in 0..line.len() {
-        if line[i] == b' ' {
-            let (before, rest) = line.split_at(i);
+    for i in 0..text.len() {
+        if text[i] == mark {
+            let (before, rest) = text.split_at(i);
             let (_, after) = rest.split_at(1);
             return (before, after);
         }
     }
-    (line, &line[0..0])
+    (text, &text[0..0])
 }
 
 // Two numbers as address and length, or the first fault of theirs.
@@ -86,6 +99,6 @@ fn judge(address: Option<u64>, length: Option<u64>) -> Result<Extent, LineFault>
 pub fn read_request(line: &[u8]) -> Result<Extent, LineFault>
     ensures { λ r. ⌜ Cases r (λ e. requested (now (line .entry)) ≡ Ok (e .address, e .length)) (λ f. requested (now (line .entry)) ≡ Err f) ⌝ }
 {
-    let (address, length) = split(line);
+    let (address, length) = split(line, b' ');
     judge(decimal(address), decimal(length))
 }

@@ -3,17 +3,17 @@ use lib.ListN.{drop}
 use Rattle.seek.proofs.Splitting.{passed-more, found-before, found-after, never-before, never-after}
 use Rattle.seek.proofs.request.split.Needs as need
 
-pub returns-then-line-i-eq32 : need.returns-then-line-i-eq32
-returns-then-line-i-eq32 c =
-    let e = c .if-line-i-eq32 .taken in
+pub returns-then-text-i : need.returns-then-text-i
+returns-then-text-i c =
+    let e = c .if-text-i .taken in
     let first = c .split-at .ensures in
-    let second = c .split-at-then-line-i-eq32 .ensures in (
-      first .front ∙ found-before _ _ (c .loop-i-test .taken) (c .loop-i .inv) e,
-      second .back ∙ (ap (drop 1) (first .back) ∙ found-after _ _ (c .loop-i-test .taken) (c .loop-i .inv) e),
+    let second = c .split-at-then-text-i .ensures in (
+      first .front ∙ found-before _ _ _ (c .loop-i-test .taken) (c .loop-i .inv) e,
+      second .back ∙ (ap (drop 1) (first .back) ∙ found-after _ _ _ (c .loop-i-test .taken) (c .loop-i .inv) e),
     )
 
 pub loop-i-again : need.loop-i-again
-loop-i-again c = passed-more _ _ (c .loop-i-test .taken) (c .loop-i .inv) (c .if-line-i-eq32 .left)
+loop-i-again c = passed-more _ _ _ (c .loop-i-test .taken) (c .loop-i .inv) (c .if-text-i .left)
 
 pub returns : need.returns
-returns c = (never-before _ _ (c .loop-i-test .left) (c .loop-i .inv), never-after _ _ (c .loop-i-test .left) (c .loop-i .inv))
+returns c = (never-before _ _ _ (c .loop-i-test .left) (c .loop-i .inv), never-after _ _ _ (c .loop-i-test .left) (c .loop-i .inv))
