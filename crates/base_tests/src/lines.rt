@@ -44,6 +44,18 @@ fn the_least() -> Result<(), Fail> {
     check_eq(least::<u64>(&[]), None)?;
     check_eq(least(&[5u64, 3, 4, 3]), Some(1))?;
     check_eq(least_candidate::<DueMark>(&[None, None]), None)?;
-    check_eq(least_candidate(&[None, mark(Some(40), 9), mark(Some(40), 7), mark(None, 0)]), Some(2))?;
-    check_eq(least_candidate(&[mark(None, 5), mark(None, 3), mark(Some(1_099_512_627_775), 9)]), Some(2))
+    check_eq(
+        least_candidate(&[None, mark(Some(40), 9), mark(Some(40), 7), mark(None, 0)]),
+        Some(2),
+    )?;
+    check_eq(
+        least_candidate(
+            &[
+                mark(None, 5),
+                mark(None, 3),
+                mark(Some(1_099_512_627_775), 9),
+            ],
+        ),
+        Some(2),
+    )
 }

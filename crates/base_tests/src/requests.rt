@@ -19,7 +19,10 @@ fn one_line() -> Result<(), Fail> {
     check_eq(extent.length, 8)?;
     check_eq(fault(b"4294967231 64"), None)?;
     check_eq(fault(b"4294967232 64"), Some(LineFault::PastTheEnd))?;
-    check_eq(fault(b"99999999999999999999999 1"), Some(LineFault::PastTheEnd))?;
+    check_eq(
+        fault(b"99999999999999999999999 1"),
+        Some(LineFault::PastTheEnd),
+    )?;
     check_eq(fault(b"1 0"), Some(LineFault::LengthOutOfRange))?;
     check_eq(fault(b"99999999999 65"), Some(LineFault::LengthOutOfRange))?;
     check_eq(fault(b""), Some(LineFault::NotTwoNumbers))?;

@@ -19,9 +19,9 @@ use Rattle.seek.specs.Texts.{inFront, linesOf, requestIn, faultIn, requestsFro
 -- ---- one line
 
 -- a request more, and no fault
-pub run-added : (line : ℕ) (said : Result (ℕ × ℕ) LineFault) (xs ys : List Run) (run : Run) (e : Extent) → said ≡ Ok (e .address, e .length) → run .first ≡ line % 2 ^ 32 → run .extent ≡ e → ys ≡ xs ++ run ∷ [] → map runSays ys ≡ map runSays xs ++ requestIn line said
-run-added line said xs ys run e ok first at pushed =
-    ap (map runSays) pushed ∙ (map-push runSays xs run ∙ ((λ t. map runSays xs ++ (first t, at t .address, at t .length) ∷ []) ∙ ap (λ q. map runSays xs ++ requestIn line q) (sym ok)))
+pub run-added : (line : ℕ) (said : Result (ℕ × ℕ) LineFault) (xs ys : List Run) (run : Run) (e : Extent) → said ≡ Ok (e .address, e .length) → runSays run ≡ record { session = 0; first = line % 2 ^ 32; count = 1; direction = 0; address = e .address; length = e .length } → ys ≡ xs ++ run ∷ [] → map runSays ys ≡ map runSays xs ++ requestIn line said
+run-added line said xs ys run e ok says pushed =
+    ap (map runSays) pushed ∙ (map-push runSays xs run ∙ (ap (λ x. map runSays xs ++ x ∷ []) says ∙ ap (λ q. map runSays xs ++ requestIn line q) (sym ok)))
 
 pub no-fault-added : (line : ℕ) (said : Result (ℕ × ℕ) LineFault) (xs : List BadLine) (x : ℕ × ℕ) → said ≡ Ok x → map badSays xs ≡ map badSays xs ++ faultIn line said
 no-fault-added line said xs x ok = sym (append-nil (map badSays xs)) ∙ ap (λ q. map badSays xs ++ faultIn line q) (sym ok)

@@ -21,7 +21,8 @@ impl LineFault {
         ensures { λ r. ⌜ now r ≡ faultText self ⌝ }
     {
         match self {
-            LineFault::NotTwoNumbers => "expected ADDRESS LENGTH, two decimal numbers and one space between them",
+            LineFault::NotTwoNumbers =>
+                "expected ADDRESS LENGTH, two decimal numbers and one space between them",
             LineFault::LengthOutOfRange => "LENGTH is not 1 to 64",
             LineFault::PastTheEnd => "ADDRESS + LENGTH is above 4294967295",
         }

@@ -31,7 +31,7 @@ pub struct Requests {
 
 // A request as a run to read, with its line's number in the place of the first arrival number.
 fn run_of(line: usize, extent: Extent) -> Run
-    ensures { λ r. ⌜ (r .first ≡ line % 2 ^ 32) × (r .extent ≡ extent) ⌝ }
+    ensures { λ r. ⌜ runSays r ≡ record { session = 0; first = line % 2 ^ 32; count = 1; direction = 0; address = extent .address; length = extent .length } ⌝ }
 {
     Run {
         session: 0,

@@ -12,7 +12,8 @@ use std::io;
 use std::io::Read;
 use values::io::Run;
 
-const USAGE: &str = "sweep: reads lines \"ADDRESS LENGTH\" (sectors) from standard input, serves them through an elevator\nand through a line store, and tells the order of service of each and how far the arm travelled.";
+const USAGE: &str =
+    "sweep: reads lines \"ADDRESS LENGTH\" (sectors) from standard input, serves them through an elevator\nand through a line store, and tells the order of service of each and how far the arm travelled.";
 
 // All of standard input.
 fn read_input(rt: &LibcRuntime) -> io::Result<Vec<u8>> {

@@ -5,7 +5,7 @@ pub returns-in-Continue-push : need.returns-in-Continue-push
 returns-in-Continue-push c =
     let ok = c .in-Ok .ensures tt in
     record {
-      runs = run-added _ _ _ _ _ (c .in-Ok .extent) ok (c .run-of .ensures .0) (c .run-of .ensures .1) (c .in-Continue-push .ensures tt .items);
+      runs = run-added _ _ _ _ _ (c .in-Ok .extent) ok (c .run-of .ensures) (c .in-Continue-push .ensures tt .items);
       bad = no-fault-added _ _ _ _ ok;
     }
 
