@@ -8,9 +8,14 @@ use lib.Dec.{lit≤}
 use lib.ListN.{length, getD, set, drop}
 use lib.Pow.{pow-pos}
 use Rattle.std.proofs.shelf.Bits.{div-below}
+use Rattle.std.proofs.shelf.Counted.{getD-map-counting}
 use Rattle.std.proofs.shelf.Lists.{at-drop-more, at-drop-all}
 use Rattle.usage.specs.Usage.{oneMore}
-use Rattle.sharing.specs.Levels.{weightOf, waterFrom, waterLevel}
+use Rattle.sharing.specs.Levels.{weightOf, weightAt, waterFrom, waterLevel}
+
+-- in the window the weight is the rule's
+pub weight-is : (age : ℕ) → age < 20 → weightAt age ≡ weightOf age
+weight-is age h = getD-map-counting weightOf 0 20 age age 0 h (omega arith)
 
 -- no weight is above that of the present quarter
 pub weight-most : (age : ℕ) → weightOf age ≤ 1000000

@@ -1,12 +1,16 @@
 -- What holds of the levels.
-use Prim.Native.Nat.{ℕ, _+_, _-_, _^_, _<_}
+use Prim.Native.Nat.{ℕ, _+_, _-_, _^_, _<_, _≤_}
 use mathlib.Core.Bool.{Bool, cond}
 use mathlib.Core.List.{_∷_}
 use mathlib.Core.Path.{_≡_}
 use lib.ListN.{length, getD, replicate}
 use Rattle.usage.specs.declared.ServiceRecord.{ServiceRecord}
 use Rattle.usage.specs.Usage.{sentOne}
-use Rattle.sharing.specs.Levels.{waterLevel, evenLevel}
+use Rattle.sharing.specs.Levels.{weightOf, weightAt, waterLevel, evenLevel}
+
+-- a weight is the rule's at each of the window's twenty ages, and 0 past them
+abbrev pub WeightsByRule : Type 0
+WeightsByRule = (age : ℕ) → (age < 20 → weightAt age ≡ weightOf age) × (20 ≤ age → weightAt age ≡ 0)
 
 -- one run now and one in the quarter before
 abbrev pub OneNowOneBefore : Type 0

@@ -1,5 +1,10 @@
 // Laws of the levels, as contracts of functions that do nothing.
-ghost use Rattle.sharing.specs.Laws.{OneNowOneBefore, WaterRises, EvenRises};
+ghost use Rattle.sharing.specs.Laws.{WeightsByRule, OneNowOneBefore, WaterRises, EvenRises};
+
+// Each weight of the window is the rule's, and there is none past it.
+pub fn weights_by_rule()
+    ensures { λ _. ⌜ WeightsByRule ⌝ }
+{}
 
 // Water at a worked example: one run now and one in the quarter before.
 pub fn one_now_one_before()

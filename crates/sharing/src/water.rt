@@ -28,20 +28,11 @@ const WEIGHTS: [u64; 20] = [
     135_085,
 ];
 
-// What the table says of an age in it.
-fn table_weight(age: usize) -> u64
-    requires { ⌜ age < 20 ⌝ }
-    ensures is { λ r. ⌜ r ≡ weightOf age ⌝ }
-    ensures most { λ r. ⌜ r ≤ 1000000 ⌝ }
-{
-    WEIGHTS[age]
-}
-
-// The weight of a run by its age in quarter seconds: 9/10 of a million to the power of the age, and nothing from the twentieth on.
+// The weight of a run by its age in quarter seconds; from the twentieth on it has none.
 pub fn weight(age: usize) -> u64
     ensures { λ r. ⌜ r ≡ weightAt age ⌝ }
 {
-    if age < 20 { table_weight(age) } else { 0 }
+    if age < 20 { WEIGHTS[age] } else { 0 }
 }
 
 // A count of runs so many quarters old, times their weight.
@@ -50,7 +41,7 @@ fn weighted(count: u32, age: usize) -> u64
     ensures is { λ r. ⌜ r ≡ count * weightOf age ⌝ }
     ensures most { λ r. ⌜ r ≤ 4294967295000000 ⌝ }
 {
-    count as u64 * table_weight(age)
+    count as u64 * weight(age)
 }
 
 // The sum of the counts, each times its weight.

@@ -1,11 +1,10 @@
 -- A record moved on twice, and many times.
-use Prim.Native.Nat.{ℕ, _+_, _-_, _<_, _≤_}
-use mathlib.Core.Bool.{true, false, cond}
+use Prim.Native.Nat.{ℕ, _-_, _<_, _≤_}
+use mathlib.Core.Bool.{cond}
 use mathlib.Core.List.{List, [], _∷_}
-use mathlib.Core.Logic.{_⊎_, inl, inr}
+use mathlib.Core.Logic.{inl, inr}
 use mathlib.Core.Path.{_≡_, refl, sym, _∙_, ap}
 use native.Mathlib.Omega.{arith}
-use lib.Dec.{ltb}
 use Rattle.std.proofs.shelf.Tests.{lt-ltb, le-ltb, cases-lt}
 use Rattle.usage.specs.declared.ServiceRecord.{ServiceRecord}
 use Rattle.usage.specs.Usage.{shifted, movedTo}
@@ -13,7 +12,7 @@ use Rattle.usage.specs.Laws.{movedThrough, NonePast}
 use Rattle.usage.proofs.Windows.{shifted-twice}
 
 -- the record with its window shifted, at a quarter
-abbrev at : ℕ → ServiceRecord → ServiceRecord
+abbrev pub at : ℕ → ServiceRecord → ServiceRecord
 at quarter r = record { quarter = quarter; recent = shifted (quarter - r .quarter) (r .recent); «not_due» = r .«not_due» }
 
 pub unmoved : (quarter : ℕ) (r : ServiceRecord) → quarter ≤ r .quarter → movedTo quarter r ≡ r

@@ -10,10 +10,10 @@ use Rattle.usage.specs.Usage.{shifted, countAt}
 
 -- a window of any width, so that no list of a given length is written out
 
-place-is : (width n : ℕ) (counts : List ℕ) (place : ℕ) → place < width → getD (take width (replicate n 0 ++ counts)) place 0 ≡ countAt n counts place
+pub place-is : (width n : ℕ) (counts : List ℕ) (place : ℕ) → place < width → getD (take width (replicate n 0 ++ counts)) place 0 ≡ countAt n counts place
 place-is width n counts place h = grind (arith, places, tells)
 
-width-is : (width n : ℕ) (counts : List ℕ) → length counts ≡ width → length (take width (replicate n 0 ++ counts)) ≡ width
+pub width-is : (width n : ℕ) (counts : List ℕ) → length counts ≡ width → length (take width (replicate n 0 ++ counts)) ≡ width
 width-is width n counts h = grind (arith, places)
 
 take-inner : (n m : ℕ) (xs ys : List ℕ) → n ≤ m → take n (xs ++ take m ys) ≡ take n (xs ++ ys)

@@ -1,5 +1,5 @@
 // Service records: what a session or pool was sent lately, and how much of it when not due.
-ghost use Prim.Native.Nat.{ℕ, _+_, _≤_};
+ghost use Prim.Native.Nat.{ℕ, _≤_};
 ghost use mathlib.Core.Path.{_≡_};
 ghost use Rattle.usage.specs.Usage.{quarterOf, unused, movedTo, oneMore, sentOne};
 use values::instant::Instant;
