@@ -1,0 +1,3 @@
+pub mod Usage
+pub mod Laws
+pub mod Histories
