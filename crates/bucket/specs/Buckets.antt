@@ -2,15 +2,15 @@
 use Prim.Native.Nat.{ℕ, _+_, _-_, _*_, min}
 use mathlib.Core.Bool.{Bool, true, false, _&&_}
 use lib.Dec.{leb}
-use Rattle.values.specs.declared.rates.Rates.{Rates}
 use Rattle.std.specs.declared.option.Option.{Option}
 use Rattle.std.specs.declared.option.Option.the-variants.{Some, None}
+use Rattle.values.specs.declared.rates.Rates.{Rates}
 
 -- the units that one run costs
 abbrev pub runCost : ℕ
 runCost = 1000000
 
--- the most units that a bucket holds: the burst counts runs
+-- the most units that a bucket holds: the burst counts runs, and a unit is the millionth part of one
 abbrev pub capacity : ℕ → ℕ
 capacity burst = burst * 1000000
 
@@ -22,7 +22,7 @@ settledUnits rate burst units micros = min (units + rate * micros) (capacity bur
 abbrev pub chargedUnits : ℕ → ℕ
 chargedUnits units = units - runCost
 
--- the limit bucket of a pair: there exactly where a limit is set
+-- the limit bucket of a pair, which is there where a limit is set: settled, charged, and full as at the start
 abbrev pub settledLimit : (rate : Option ℕ) (burst : ℕ) (units : Option ℕ) (micros : ℕ) → Option ℕ
 settledLimit None burst units micros = units
 settledLimit (Some rate) burst None micros = None
@@ -53,6 +53,7 @@ pub record PairUnits : Type 0 where
   pub reserve : ℕ
   pub limit : Option ℕ
 
+-- the same some microseconds later, with the cost of a run taken, and at the start: the limit bucket full, the reserve bucket empty
 abbrev pub settledPair : Rates → PairUnits → ℕ → PairUnits
 settledPair rates u micros = record {
   reserve = settledUnits (rates .reserve) (rates .burst) (u .reserve) micros;
@@ -64,3 +65,7 @@ chargedPair u = record { reserve = chargedUnits (u .reserve); limit = chargedLim
 
 abbrev pub freshPair : Rates → PairUnits
 freshPair rates = record { reserve = 0; limit = fullLimit (rates .limit) (rates .burst) }
+
+-- the test of a pair's numbers, by its rates
+abbrev pub arePair : Rates → PairUnits → Bool
+arePair rates u = isPair (rates .burst) (rates .limit) (u .reserve) (u .limit)

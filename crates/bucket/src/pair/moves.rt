@@ -22,7 +22,7 @@ fn is_pair(rates: Rates, reserve: u64, limit: Option<u64>) -> bool
     }
 }
 
-// The limit bucket of a pair some microseconds later. It stays above the reserve bucket, since the limit is at least the reserve.
+// The limit bucket of a pair some microseconds later. The reserve bucket does not pass it, since the limit is at least the reserve.
 fn settled_limit(pair: BucketPair, micros: u64) -> Option<u64>
     ensures is { λ r. ⌜ r ≡ settledLimit (pair .rates .limit) (pair .rates .burst) (pair .limit) micros ⌝ }
     ensures pair { λ r. ⌜ isPair (pair .rates .burst) (pair .rates .limit) (settledUnits (pair .rates .reserve) (pair .rates .burst) (pair .reserve) micros) r ≡ true ⌝ }
