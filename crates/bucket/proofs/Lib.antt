@@ -1,0 +1,4 @@
+pub mod Edges
+pub mod Pairs
+pub mod Waiting
+pub mod Windows
