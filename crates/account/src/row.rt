@@ -13,10 +13,12 @@ use values::instant::Instant;
 use values::rates::Rates;
 
 // What a pool or session has: its rates, what its two buckets held when they were last settled, its due mark and its service record.
-// The numbers are plain; the pair of buckets is made from them for settling and charging, and written back whole.
+// The numbers are plain; rates and the pair of buckets are made from them for settling and charging, and the pair is written back whole.
 #[derive(Clone, Copy)]
 pub struct Account {
-    pub rates: Rates,
+    pub reserve: u32,
+    pub limit: Option<u32>,
+    pub burst: u8,
     pub reserve_units: u64,
     pub limit_units: Option<u64>,
     pub settled_at: u64,
@@ -31,7 +33,9 @@ impl Account {
     {
         let pair = BucketPair::fresh(rates);
         Account {
-            rates,
+            reserve: rates.reserve,
+            limit: rates.limit,
+            burst: rates.burst,
             reserve_units: pair.reserve,
             limit_units: pair.limit,
             settled_at: present.micros,
@@ -42,9 +46,10 @@ impl Account {
 
     // The pair of buckets as of an instant; none exactly where the row's numbers are no pair.
     pub fn pair_at(&self, present: Instant) -> Option<BucketPair>
-        ensures { λ r. ⌜ Cases r (isSound (now (self .entry)) ≡ false) (λ p. (isSound (now (self .entry)) ≡ true) × (p .rates ≡ now (self .entry) .rates) × (unitsOf p ≡ unitsAt (now (self .entry)) (present .micros))) ⌝ }
+        ensures { λ r. ⌜ Cases r (isSound (now (self .entry)) ≡ false) (λ p. (isSound (now (self .entry)) ≡ true) × (p .rates .reserve ≡ now (self .entry) .reserve) × (p .rates .limit ≡ now (self .entry) .limit) × (unitsOf p ≡ unitsAt (now (self .entry)) (present .micros))) ⌝ }
     {
-        let pair = BucketPair::from_units(self.rates, self.reserve_units, self.limit_units)?;
+        let rates = Rates::new(self.reserve, self.limit, self.burst).ok()?;
+        let pair = BucketPair::from_units(rates, self.reserve_units, self.limit_units)?;
         Some(pair.settled(present.micros.saturating_sub(self.settled_at)))
     }
 

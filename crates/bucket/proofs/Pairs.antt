@@ -12,7 +12,7 @@ use Rattle.values.specs.declared.rates.Rates.{Rates}
 use Rattle.bucket.specs.Buckets.{PairUnits, arePair, capacity, chargedLimit, chargedUnits, fullLimit, isPair, settledLimit, settledPair, settledUnits}
 use Rattle.bucket.specs.Settling.{PairsStay, SettlesInSteps}
 
-fresh-is-pair : (burst : ℕ) (limit : Option ℕ) → isPair burst limit 0 (fullLimit limit burst) ≡ true
+pub fresh-is-pair : (burst : ℕ) (limit : Option ℕ) → isPair burst limit 0 (fullLimit limit burst) ≡ true
 fresh-is-pair burst None = grind (arith, tells)
 fresh-is-pair burst (Some rate) = grind (arith, tells)
 
@@ -26,7 +26,7 @@ settled-is-pair reserve (Some rate) burst units (Some held) micros a p =
     let slower : reserve * micros ≤ rate * micros = mul-le-mul-right micros below in
     grind (arith, tells)
 
-charged-is-pair : (burst : ℕ) (limit : Option ℕ) (units : ℕ) (held : Option ℕ) → isPair burst limit units held ≡ true → isPair burst limit (chargedUnits units) (chargedLimit held) ≡ true
+pub charged-is-pair : (burst : ℕ) (limit : Option ℕ) (units : ℕ) (held : Option ℕ) → isPair burst limit units held ≡ true → isPair burst limit (chargedUnits units) (chargedLimit held) ≡ true
 charged-is-pair burst None units None p = grind (arith, tells)
 charged-is-pair burst None units (Some held) p = p
 charged-is-pair burst (Some rate) units None p = p
