@@ -32,7 +32,12 @@ fn due_marks() -> Result<(), Fail> {
     check_eq(account.mark.at, Some(1_000_000))?;
     check(account.send(later, 9, true))?;
     check_eq(account.mark.at, Some(1_100_000))?;
-    check_eq(Account::new(Rates::new(1, None, 1)?, Instant::new(1_099_511_627_775)?, 0).mark.at, Some(1_099_512_627_775))
+    check_eq(
+        Account::new(Rates::new(1, None, 1)?, Instant::new(1_099_511_627_775)?, 0)
+            .mark
+            .at,
+        Some(1_099_512_627_775),
+    )
 }
 
 // However late a full bucket is settled, it is no fuller.

@@ -1,0 +1,2 @@
+// Head runs: what a session would send next.
+pub mod head;
