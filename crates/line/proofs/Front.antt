@@ -45,7 +45,7 @@ module _ {X : Type 0} {kept xs ys : List X} {k : ℕ} (h : Front kept xs ys k) w
       }
 
 -- the same under another name for what is kept
-front-is : {X : Type 0} {kept kept′ xs ys : List X} {k : ℕ} → Front kept xs ys k → kept ≡ kept′ → Front kept′ xs ys k
+pub front-is : {X : Type 0} {kept kept′ xs ys : List X} {k : ℕ} → Front kept xs ys k → kept ≡ kept′ → Front kept′ xs ys k
 front-is h e = record { held = h .held ∙ e; rest = h .rest; long = h .long }
 
 unflagged-nil : {X : Type 0} (flags : List Bool) → unflagged {X = X} flags [] ≡ []

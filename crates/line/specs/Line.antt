@@ -1,9 +1,10 @@
 -- What the calls of a line do, over plain lists: `places` is the whole lent table, `len` how many of its places are in
 -- use, and a prime marks the value after the call.
-use Prim.Native.Nat.{ℕ, _+_, _-_, _<_, _≤_}
+use Prim.Native.Nat.{ℕ, zero, suc, _+_, _-_, _<_, _≤_}
 use mathlib.Core.Bool.{Bool, true, false, cond}
 use mathlib.Core.List.{List, [], _∷_, _++_}
 use mathlib.Core.Path.{_≡_}
+use lib.Dec.{eqb}
 use lib.ListN.{length, getD, set, take, drop}
 use Rattle.std.specs.declared.option.Option.{Option}
 use Rattle.std.specs.declared.option.Option.the-variants.{Some, None}
@@ -51,3 +52,9 @@ RemovedAt places len at places′ (Some x) = (len ≤ length places) × TakenOut
 abbrev pub AppendedAt : {X : Type 0} → List X → ℕ → X → List X → Bool → Type 0
 AppendedAt places len added places′ true = (len < length places) × (places′ ≡ set places len added) × (recordsOf places′ (len + 1) ≡ recordsOf places len ++ added ∷ [])
 AppendedAt places len added places′ false = (length places ≤ len) × (places′ ≡ places)
+
+-- the records without the first n of one owner
+abbrev pub without : {X : Type 0} → (X → ℕ) → ℕ → ℕ → List X → List X
+without owner name n [] = []
+without owner name zero (x ∷ records) = x ∷ records
+without owner name (suc n) (x ∷ records) = cond (eqb (owner x) name) (without owner name n records) (x ∷ without owner name (suc n) records)

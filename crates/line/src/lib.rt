@@ -1,11 +1,11 @@
 ghost use mathlib.Core.Bool.{false};
 ghost use mathlib.Core.Path.{_≡_};
-ghost use Prim.Native.Nat.{_+_, _<_, _≤_, min};
+ghost use Prim.Native.Nat.{ℕ, _+_, _<_, _≤_, min};
 ghost use lib.Dec.{eqb};
 ghost use lib.ListN.{length, getD};
 ghost use denote.Ref.{name, now};
 ghost use Rattle.std.specs.shelf.Lists.{removed};
-ghost use Rattle.line.specs.Line.{recordsOf, unflagged, Appended, Closed, Removed, AppendedAt, RemovedAt};
+ghost use Rattle.line.specs.Line.{recordsOf, unflagged, Appended, Closed, Removed, AppendedAt, RemovedAt, without};
 
 // A line of records over a table that the caller lends: the first `len` places, never more than the table has.
 #[derive(Drop)]
@@ -111,6 +111,49 @@ impl<'a, T: Copy> Line<'a, T> {
             self.places[i] = self.places[i + 1];
         }
         last
+    }
+}
+
+// A record that belongs to somebody, as an I/O to its session.
+pub trait Owned {
+    ghost owner: { Self → ℕ };
+
+    fn owned_by(&self) -> u32
+        ensures { λ r. ⌜ r ≡ owner (now (self .entry)) ⌝ };
+}
+
+impl<'a, T: Owned + Copy> Line<'a, T> {
+    // Takes out the first `count` records of an owner among the first `within` of the line, and keeps the order of the others
+    // of these. The line ends with them; a record behind the `within`-th is where it was, and no longer in line.
+    pub fn take_first(&mut self, within: usize, owner: u32, count: usize)
+        ensures same { λ _. ⌜ name (now (self .exit) .places) ≡ name (now (self .entry) .places) ⌝ }
+        ensures held { λ _. ⌜ Closed (without (T·Owned .owner) owner count (recordsOf (now (now (self .entry) .places)) (min within (now (self .entry) .len)))) (now (now (self .entry) .places)) (now (now (self .exit) .places)) (now (self .exit) .len) ⌝ }
+    {
+        let end = within.min(self.len);
+        self.len = self.keep_but_first(end, owner, count);
+    }
+
+    // Moves those of the first `end` records that are not the first `count` of an owner to the front; how many they are, which is
+    // not yet the line's length.
+    fn keep_but_first(&mut self, end: usize, owner: u32, count: usize) -> usize
+        requires { ⌜ end ≤ now self .len ⌝ }
+        ensures same { λ _. ⌜ name (now (self .exit) .places) ≡ name (now (self .entry) .places) ⌝ }
+        ensures len { λ r. ⌜ (now (self .exit) .len ≡ now (self .entry) .len) × (r ≤ end) ⌝ }
+        ensures held { λ r. ⌜ Closed (without (T·Owned .owner) owner count (recordsOf (now (now (self .entry) .places)) end)) (now (now (self .entry) .places)) (now (now (self .exit) .places)) r ⌝ }
+    {
+        let mut left = count;
+        let mut kept_len = 0;
+        for i in 0..end {
+            let record = self.places[i];
+            let by = record.owned_by();
+            if left == 0 || by != owner {
+                self.places[kept_len] = record;
+                kept_len += 1;
+            } else {
+                left -= 1;
+            }
+        }
+        kept_len
     }
 }
 
