@@ -1,2 +1,3 @@
 // Head runs: what a session would send next.
 pub mod head;
+pub mod laws;

@@ -6,6 +6,7 @@ ghost use mathlib.Core.Path.{_≡_};
 use super::direction::Direction;
 use super::extent::Extent;
 use super::fault::ValueFault;
+use line::Owned;
 
 // An I/O of a session.
 #[derive(Clone, Copy)]
@@ -38,5 +39,14 @@ impl Io {
             direction,
             extent,
         })
+    }
+}
+
+// In a line, an I/O belongs to its session.
+pub impl Owned for Io as IoOwned {
+    ghost owner = { λ io. io .session };
+
+    fn owned_by(&self) -> u32 {
+        self.session
     }
 }
