@@ -10,14 +10,9 @@ use Rattle.std.specs.declared.option.Option.the-variants.{Some, None}
 use Rattle.std.proofs.shelf.Lists.{drop-more, at-drop-all}
 use Rattle.std.proofs.shelf.Tests.{eq-eqb, ne-eqb, cond-true, cond-false}
 use Rattle.values.specs.declared.io.Io.{Io}
-use Rattle.heads.specs.Heads.{HeadRun, ofSession, joins, alone, longer, grow, grown, withOne, headOf}
+use Rattle.heads.specs.Heads.{HeadRun, ofSession, joins, alone, longer, grow, grown, withOne, onward, headOf}
 
--- what comes of a run so far and the I/Os of its session behind it
-abbrev pub onward : Option HeadRun → List Io → Option HeadRun
-onward None ios = grown ios
-onward (Some h) ios = Some (grow h ios)
-
-onward-none : (r : Option HeadRun) → onward r [] ≡ r
+pub onward-none : (r : Option HeadRun) → onward r [] ≡ r
 onward-none None = refl
 onward-none (Some h) = refl
 

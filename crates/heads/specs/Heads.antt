@@ -1,8 +1,11 @@
 -- A session's head run: its first waiting I/O, and then its next ones as long as they adjoin.
-use Prim.Native.Nat.{ℕ, _+_}
+use Prim.Native.Nat.{ℕ, _+_, _<_}
 use mathlib.Core.Bool.{Bool, cond, _&&_}
 use mathlib.Core.List.{List, [], _∷_}
+use mathlib.Core.Path.{_≡_}
 use lib.Dec.{eqb, leb}
+use lib.ListN.{getD}
+use Rattle.std.specs.Options.{mapped}
 use Rattle.std.specs.declared.option.Option.{Option}
 use Rattle.std.specs.declared.option.Option.the-variants.{Some, None}
 use Rattle.values.specs.Direction.{directionNumber}
@@ -53,3 +56,23 @@ withOne (Some h) io = cond (joins h io) (Some (longer h io)) None
 -- what a head stands for
 abbrev pub headSays : Head → HeadRun
 headSays h = record { count = h .count; direction = directionNumber (h .direction); address = h .extent .address; length = h .extent .length }
+
+-- what comes of a run so far and the I/Os of its session behind it
+abbrev pub onward : Option HeadRun → List Io → Option HeadRun
+onward None ios = grown ios
+onward (Some h) ios = Some (grow h ios)
+
+-- ---- several sessions at once, by places that have a session's name or none
+
+abbrev pub headFor : Option ℕ → List Io → Option HeadRun
+headFor None waiting = None
+headFor (Some name) waiting = headOf name waiting
+
+-- what a place ends with: the run so far and, while it can grow, the I/Os behind it
+abbrev pub finally : Option HeadRun → Bool → Option ℕ → List Io → Option HeadRun
+finally h grows None ios = h
+finally h grows (Some name) ios = cond grows (onward h (ofSession name ios)) h
+
+-- each of the 64 places has the head run of its session
+abbrev pub HeadsOf : List (Option ℕ) → List Io → List (Option Head) → Type 0
+HeadsOf names waiting heads = (k : ℕ) → k < 64 → mapped headSays (getD heads k None) ≡ headFor (getD names k None) waiting

@@ -1,8 +1,7 @@
 use mathlib.Core.Path.{_≡_}
 use lib.ListN.{drop}
 use Rattle.std.specs.Options.{mapped}
-use Rattle.heads.specs.Heads.{ofSession, headOf, headSays}
-use Rattle.heads.proofs.Growing.{onward}
+use Rattle.heads.specs.Heads.{ofSession, onward, headOf, headSays}
 use Rattle.heads.proofs.head.scan.head_of.Given as given
 
 -- the run so far with what is left gives the head run
