@@ -1,0 +1,5 @@
+pub mod Faults
+pub mod Numbers
+pub mod Tags
+pub mod Names
+pub mod Events
