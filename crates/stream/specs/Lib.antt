@@ -3,3 +3,4 @@ pub mod Numbers
 pub mod Tags
 pub mod Names
 pub mod Events
+pub mod Fields

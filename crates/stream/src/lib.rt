@@ -1,8 +1,9 @@
 // The way in: the events that a stream of bytes spells, exactly, or the fault that ends it.
 pub mod decode;
 pub mod event;
-pub mod field;
 pub mod fault;
+pub mod field;
 pub mod name;
 mod number;
+pub mod reader;
 pub mod tag;
