@@ -4,3 +4,5 @@ pub mod Tags
 pub mod Names
 pub mod Events
 pub mod Fields
+pub mod Streams
+pub mod Ranges

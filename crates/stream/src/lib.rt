@@ -1,4 +1,5 @@
 // The way in: the events that a stream of bytes spells, exactly, or the fault that ends it.
+pub mod checked;
 pub mod decode;
 pub mod event;
 pub mod fault;
@@ -7,3 +8,4 @@ pub mod name;
 mod number;
 pub mod reader;
 pub mod tag;
+pub mod whole;
