@@ -6,3 +6,4 @@ pub mod Events
 pub mod Fields
 pub mod Streams
 pub mod Ranges
+pub mod Spelling

@@ -4,6 +4,7 @@ pub mod decode;
 pub mod event;
 pub mod fault;
 pub mod field;
+pub mod laws;
 pub mod name;
 mod number;
 pub mod reader;
