@@ -33,11 +33,15 @@ abbrev pub limitBytes : Option ℕ → List ℕ
 limitBytes None = []
 limitBytes (Some limit) = bytesOf 4 limit
 
+-- reserve, burst and limit
+abbrev pub ratesBytes : ℕ → ℕ → Option ℕ → List ℕ
+ratesBytes reserve burst limit = bytesOf 4 reserve ++ (burst ∷ limitBytes limit)
+
 -- the value of an event's field
 abbrev pub valueIn : Event → List ℕ
 valueIn (Begin throughput most rule) = bytesOf 4 throughput ++ (most ∷ ruleName rule)
-valueIn (Pool instant reserve burst limit) = bytesOf 8 instant ++ (bytesOf 4 reserve ++ (burst ∷ limitBytes limit))
-valueIn (Open instant pool reserve burst limit) = bytesOf 8 instant ++ (pool ∷ (bytesOf 4 reserve ++ (burst ∷ limitBytes limit)))
+valueIn (Pool instant reserve burst limit) = bytesOf 8 instant ++ ratesBytes reserve burst limit
+valueIn (Open instant pool reserve burst limit) = bytesOf 8 instant ++ (pool ∷ ratesBytes reserve burst limit)
 valueIn (Arrival session direction address sectors) = bytesOf 4 session ++ (direction ∷ (bytesOf 4 address ++ (sectors ∷ [])))
 valueIn (Schedule instant) = bytesOf 8 instant
 valueIn (End session) = bytesOf 4 session

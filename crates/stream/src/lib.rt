@@ -10,3 +10,4 @@ mod number;
 pub mod reader;
 pub mod tag;
 pub mod whole;
+pub mod write;

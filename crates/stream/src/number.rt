@@ -1,7 +1,7 @@
 ghost use Prim.Native.Nat.{_+_, _*_, _^_, _<_, _≤_};
 ghost use mathlib.Core.Path.{_≡_};
 ghost use lib.ListN.{length};
-ghost use Rattle.stream.specs.Numbers.{bigEndian};
+ghost use Rattle.stream.specs.Numbers.{bigEndian, bytesOf};
 
 // A byte behind the bytes of a number.
 fn with_byte(number: u64, byte: u8) -> u64
@@ -46,4 +46,25 @@ pub(crate) fn number_16(bytes: &[u8]) -> u16
     ensures { λ r. ⌜ r ≡ bigEndian (now (bytes .entry)) ⌝ }
 {
     number(bytes) as u16
+}
+
+// The bytes that spell a number of two bytes.
+pub(crate) fn bytes_16(number: u16) -> [u8; 2]
+    ensures { λ r. ⌜ r ≡ bytesOf 2 number ⌝ }
+{
+    number.to_be_bytes()
+}
+
+// The bytes that spell a number of four bytes.
+pub(crate) fn bytes_32(number: u32) -> [u8; 4]
+    ensures { λ r. ⌜ r ≡ bytesOf 4 number ⌝ }
+{
+    number.to_be_bytes()
+}
+
+// The bytes that spell a number of eight bytes.
+pub(crate) fn bytes_64(number: u64) -> [u8; 8]
+    ensures { λ r. ⌜ r ≡ bytesOf 8 number ⌝ }
+{
+    number.to_be_bytes()
 }
