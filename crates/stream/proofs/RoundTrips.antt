@@ -14,7 +14,7 @@ use Rattle.std.specs.declared.option.Option.the-variants.{Some, None}
 use Rattle.std.specs.declared.result.Result.{Result}
 use Rattle.std.specs.declared.result.Result.the-variants.{Ok, Err}
 use Rattle.std.specs.shelf.Lists.{All, joined}
-use Rattle.std.proofs.shelf.Lists.{take-at, drop-at, length-append}
+use Rattle.std.proofs.shelf.Lists.{append-nil, append-assoc, take-at, take-all, drop-at, length-append, at-drop-more, at-drop-all}
 use Rattle.std.proofs.shelf.Tests.{ne-eqb, le-leb}
 use Rattle.sharing.specs.declared.shipped.Rule.the-variants.{Water, Even}
 use Rattle.stream.specs.declared.event.Event.{Event}
@@ -25,7 +25,7 @@ use Rattle.stream.specs.declared.fault.StreamWhy.{StreamWhy}
 use Rattle.stream.specs.Events.{eventOf, placed}
 use Rattle.stream.specs.Fields.{PlainField, fieldSize, fieldFrom, spelledAt, spelledBy, oneRead, decoded, eventFrom}
 use Rattle.stream.specs.Numbers.{bigEndianAfter, bigEndian, bytesOf}
-use Rattle.stream.specs.Spelling.{tagIn, valueIn, spelling, NumbersFit, eventsAt, RoundTrip}
+use Rattle.stream.specs.Spelling.{tagIn, valueIn, spelling, NumbersFit, eventsAt, ReadBack, RoundTrip}
 use Rattle.stream.specs.Streams.{Outcome, inFrontOf, readFrom, streamOf}
 use Rattle.stream.specs.Tags.{tagNumber}
 use Rattle.stream.proofs.Gathering.{by-fields}
@@ -129,3 +129,18 @@ read-all offset (event ∷ events) h = one-back offset event (joined spelling ev
 
 pub round-trip : RoundTrip
 round-trip events h = read-all 0 events h
+
+-- ---- event after event
+
+-- one event more was written
+pub written-more : (events : List Event) (i : ℕ) (d : Event) (whole out out′ : List ℕ) → i < length events → out ++ joined spelling (drop i events) ≡ whole → out′ ≡ out ++ spelling (getD events i d) → out′ ++ joined spelling (drop (i + 1) events) ≡ whole
+written-more events i d whole out out′ lt h more =
+    let rest = joined spelling (drop (i + 1) events) in
+    ap (λ l. l ++ rest) more ∙ (append-assoc out (spelling (getD events i d)) rest ∙ (ap (λ l. out ++ l) (sym (at-drop-more (joined spelling) events i d lt)) ∙ h))
+
+-- all were written
+pub written-all : (events : List Event) (i : ℕ) (whole out : List ℕ) → length events ≤ i → out ++ joined spelling (drop i events) ≡ whole → out ≡ whole
+written-all events i whole out le h = sym (append-nil out) ∙ (ap (λ l. out ++ l) (sym (at-drop-all (joined spelling) events i le)) ∙ h)
+
+pub read-back : (events : List Event) (i : ℕ) → length events ≤ i → All NumbersFit (take i events) → ReadBack events (joined spelling events)
+read-back events i le h = round-trip events (subst (λ (l : List Event). All NumbersFit l) (take-all i events le) h)

@@ -75,10 +75,10 @@ abbrev pub eventsAt : ℕ → List Event → List Spelled
 eventsAt offset [] = []
 eventsAt offset (event ∷ events) = record { offset = offset; event = event } ∷ eventsAt (offset + length (spelling event)) events
 
--- reading what was written gives the same events and no fault
-abbrev pub ReadBack : List Event → Type 0
-ReadBack events = streamOf (joined spelling events) ≡ record { events = eventsAt 0 events; fault = None }
+-- reading the bytes gives these events and no fault
+abbrev pub ReadBack : List Event → List ℕ → Type 0
+ReadBack events bytes = streamOf bytes ≡ record { events = eventsAt 0 events; fault = None }
 
--- for every list of events whose numbers fit
+-- what was written is read back, for every list of events whose numbers fit
 abbrev pub RoundTrip : Type 0
-RoundTrip = (events : List Event) → All NumbersFit events → ReadBack events
+RoundTrip = (events : List Event) → All NumbersFit events → ReadBack events (joined spelling events)

@@ -6,8 +6,9 @@ ghost use lib.ListN.{length};
 ghost use Rattle.std.specs.Of.Vec.{vec-items};
 ghost use Rattle.std.specs.Results.{isOk};
 ghost use Rattle.std.specs.Vec.{made};
+ghost use Rattle.std.specs.shelf.Lists.{joined};
 ghost use Rattle.stream.specs.Names.{ruleName};
-ghost use Rattle.stream.specs.Spelling.{tagIn, limitBytes, ratesBytes, valueIn, spelling, NumbersFit};
+ghost use Rattle.stream.specs.Spelling.{tagIn, limitBytes, ratesBytes, valueIn, spelling, NumbersFit, ReadBack};
 use super::event::Event;
 use super::number::bytes_16;
 use super::number::bytes_32;
@@ -211,8 +212,30 @@ fn field_of(heap: Global, event: Event) -> Result<Vec<u8>, AllocError>
 
 // Writes an event behind what was written: exactly the bytes of its field, or nothing for want of memory.
 pub fn write_event(out: &mut Vec<u8>, event: Event) -> Result<(), AllocError>
-    ensures { λ r. ⌜ vec-items (now (out .exit)) ≡ cond (isOk r) (vec-items (now (out .entry)) ++ spelling event) (vec-items (now (out .entry))) ⌝ }
+    ensures bytes { λ r. ⌜ vec-items (now (out .exit)) ≡ cond (isOk r) (vec-items (now (out .entry)) ++ spelling event) (vec-items (now (out .entry))) ⌝ }
+    ensures fits { λ _. ⌜ NumbersFit event ⌝ }
 {
     let field = field_of(out.allocator(), event)?;
     out.extend_from_slice(&field)
+}
+
+// Writes events one after the other.
+fn write_all(out: &mut Vec<u8>, events: &[Event]) -> Result<(), AllocError>
+    ensures bytes { λ r. ⌜ made r (λ _. vec-items (now (out .exit)) ≡ vec-items (now (out .entry)) ++ joined spelling (now (events .entry))) ⌝ }
+    ensures back { λ r. ⌜ made r (λ _. ReadBack (now (events .entry)) (joined spelling (now (events .entry)))) ⌝ }
+{
+    for event in events {
+        write_event(out, *event)?;
+    }
+    Ok(())
+}
+
+// Writes a stream of events: reading its bytes gives the same events, with the offsets of their fields, and no fault.
+pub fn write_stream(heap: Global, events: &[Event]) -> Result<Vec<u8>, AllocError>
+    ensures bytes { λ r. ⌜ made r (λ v. vec-items v ≡ joined spelling (now (events .entry))) ⌝ }
+    ensures back { λ r. ⌜ made r (λ v. ReadBack (now (events .entry)) (vec-items v)) ⌝ }
+{
+    let mut out = Vec::new(heap);
+    write_all(&mut out, events)?;
+    Ok(out)
 }
