@@ -33,6 +33,10 @@ readFrom offset zero (b ∷ bytes) = inFrontOf (eventFrom offset (b ∷ bytes)) 
 abbrev pub streamOf : List ℕ → Outcome
 streamOf input = readFrom 0 0 input
 
+-- what is left is its first field and, behind it, what is left then
+abbrev pub FieldByField : Type 0
+FieldByField = (offset : ℕ) (left : List ℕ) → readFrom offset 0 left ≡ inFrontOf (eventFrom offset left) (readFrom (offset + fieldSize left) 0 (drop (fieldSize left) left))
+
 -- the part of the input that the field of an event takes
 abbrev pub partOf : List ℕ → Spelled → List ℕ
 partOf input spelled = take (fieldSize (drop (spelled .offset) input)) (drop (spelled .offset) input)

@@ -1,4 +1,6 @@
 ghost use mathlib.Core.Path.{_≡_};
+ghost use Rattle.stream.specs.Spelling.{tagIn};
+use super::tag::Tag;
 use sharing::shipped::Rule;
 
 // An event, its numbers exactly as a field spells them, in range or not.
@@ -55,4 +57,23 @@ pub enum Event {
 pub struct Spelled {
     pub offset: usize,
     pub event: Event,
+}
+
+impl Event {
+    // The tag of the event's field.
+    pub fn tag(self) -> Tag
+        ensures { λ r. ⌜ r ≡ tagIn self ⌝ }
+    {
+        match self {
+            Event::Begin { .. } => Tag::Begin,
+            Event::Pool { .. } => Tag::Pool,
+            Event::Open { .. } => Tag::Open,
+            Event::Arrival { .. } => Tag::Arrival,
+            Event::Schedule { .. } => Tag::Schedule,
+            Event::End { .. } => Tag::End,
+            Event::Close { .. } => Tag::Close,
+            Event::Work => Tag::Work,
+            Event::Collect => Tag::Collect,
+        }
+    }
 }

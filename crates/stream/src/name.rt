@@ -1,6 +1,6 @@
 ghost use mathlib.Core.Path.{_≡_};
 ghost use Rattle.std.specs.shelf.Text.{sameBytes};
-ghost use Rattle.stream.specs.Names.{ruleOf};
+ghost use Rattle.stream.specs.Names.{ruleName, ruleOf};
 use sharing::shipped::Rule;
 
 // Whether two texts are the same, byte for byte and whole.
@@ -20,5 +20,15 @@ pub fn rule_named(name: &[u8]) -> Option<Rule>
         Some(Rule::Even)
     } else {
         None
+    }
+}
+
+// The name of a sharing rule.
+pub fn rule_name(rule: Rule) -> &'static [u8]
+    ensures { λ r. ⌜ now r ≡ ruleName rule ⌝ }
+{
+    match rule {
+        Rule::Water => b"water",
+        Rule::Even => b"even",
     }
 }

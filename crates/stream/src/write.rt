@@ -8,42 +8,15 @@ ghost use Rattle.std.specs.Results.{isOk};
 ghost use Rattle.std.specs.Vec.{made};
 ghost use Rattle.std.specs.shelf.Lists.{joined};
 ghost use Rattle.stream.specs.Names.{ruleName};
-ghost use Rattle.stream.specs.Spelling.{tagIn, limitBytes, ratesBytes, valueIn, spelling, NumbersFit, ReadBack};
+ghost use Rattle.stream.specs.Spelling.{limitBytes, ratesBytes, valueIn, spelling, NumbersFit, ReadBack};
 use super::event::Event;
+use super::name::rule_name;
 use super::number::bytes_16;
 use super::number::bytes_32;
 use super::number::bytes_64;
-use super::tag::Tag;
 use sharing::shipped::Rule;
 use std::alloc::AllocError;
 use std::alloc::Global;
-
-// The name of a sharing rule.
-pub fn rule_name(rule: Rule) -> &'static [u8]
-    ensures { λ r. ⌜ now r ≡ ruleName rule ⌝ }
-{
-    match rule {
-        Rule::Water => b"water",
-        Rule::Even => b"even",
-    }
-}
-
-// The tag of an event's field.
-pub fn tag_of(event: Event) -> Tag
-    ensures { λ r. ⌜ r ≡ tagIn event ⌝ }
-{
-    match event {
-        Event::Begin { .. } => Tag::Begin,
-        Event::Pool { .. } => Tag::Pool,
-        Event::Open { .. } => Tag::Open,
-        Event::Arrival { .. } => Tag::Arrival,
-        Event::Schedule { .. } => Tag::Schedule,
-        Event::End { .. } => Tag::End,
-        Event::Close { .. } => Tag::Close,
-        Event::Work => Tag::Work,
-        Event::Collect => Tag::Collect,
-    }
-}
 
 // How many bytes a rule's name takes.
 fn name_length(rule: Rule) -> u16
@@ -204,7 +177,7 @@ fn field_of(heap: Global, event: Event) -> Result<Vec<u8>, AllocError>
 {
     let value = value_of(heap, event)?;
     let mut field = Vec::new(heap);
-    field.push(tag_of(event).number())?;
+    field.push(event.tag().number())?;
     field.extend_from_slice(&bytes_16(value_length(event)))?;
     field.extend_from_slice(&value)?;
     Ok(field)

@@ -97,7 +97,8 @@ impl<'a> Reader<'a> {
         match field_at(input, offset) {
             Ok(Some(field)) => {
                 let spelled = spelled(field)?;
-                self.position = offset + 3 + field.value.len();
+                let length = field.value.len();
+                self.position = offset + 3 + length;
                 Ok(Some(spelled))
             }
             Ok(None) => Ok(None),
