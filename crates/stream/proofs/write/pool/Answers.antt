@@ -1,0 +1,9 @@
+use mathlib.Core.List.{_++_}
+use mathlib.Core.Path.{_∙_}
+use Rattle.stream.proofs.write.pool.Needs as need
+
+pub returns : need.returns
+returns c =
+    let instant = c .in-Continue-value .ensures tt .made .0 ∙ c .bytes-64 .ensures in
+    let rates = c .deref .ensures .value ∙ c .in-Continue-rates .ensures tt in
+    c .in-Continue-extend-from-slice .ensures tt .items ∙ (λ t. instant t ++ rates t)
