@@ -1,3 +1,4 @@
 pub mod Finding
 pub mod Tables
+pub mod Sounding
 pub mod Facts

@@ -3,6 +3,7 @@ ghost use lib.ListN.{length};
 ghost use mathlib.Core.Bool.{true};
 ghost use mathlib.Core.Path.{_≡_};
 ghost use Rattle.service.specs.Rows.{session, countsFit, unsentIn};
+ghost use Rattle.service.specs.Sound.{Sound};
 use crate::rows::Tables;
 
 pub mod calls;
@@ -20,4 +21,5 @@ pub struct Service<R> {
     ghost wide: { length (tables .sessions) ≡ 64 },
     ghost deep: { length (tables .pools) ≡ 16 },
     ghost numbered: { tables .orders + unsentIn (tables .sessions) ≤ tables .arrivals + tables .opened + tables .made },
+    ghost sound: { ∥ Sound tables ∥₁ },
 }
