@@ -2,3 +2,4 @@ pub mod Finding
 pub mod Tables
 pub mod Sounding
 pub mod Facts
+pub mod Reserves

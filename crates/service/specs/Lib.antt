@@ -2,3 +2,4 @@ pub mod Faults
 pub mod Rows
 pub mod Calls
 pub mod Sound
+pub mod Laws
