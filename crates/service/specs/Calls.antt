@@ -154,9 +154,12 @@ arrivalPlace full io t = arrivalAt full t (firstFit (OpenAs (io .session)) (t .s
 abbrev pub acceptedRow : Session → Session
 acceptedRow r = record { state = r .state; name = r .name; pool = r .pool; account = r .account; accepted = r .accepted + 1; unsent = r .unsent + 1; inside = r .inside }
 
+abbrev pub arrived : Tables → ℕ → Tables
+arrived t i = withSessions t (t .arrivals + 1) (set (t .sessions) i (acceptedRow (session t i)))
+
 abbrev pub arrivalIn : Tables → Place → Outcome
 arrivalIn t (Err fault) = (Err fault, t)
-arrivalIn t (Ok i) = (Ok (session t i .accepted), withSessions t (t .arrivals + 1) (set (t .sessions) i (acceptedRow (session t i))))
+arrivalIn t (Ok i) = (Ok (session t i .accepted), arrived t i)
 
 abbrev pub arrivalCall : Bool → Io → Tables → Outcome
 arrivalCall full io t = arrivalIn t (arrivalPlace full io t)
@@ -171,10 +174,13 @@ LineAfter (Err fault) added places len places′ len′ = (places′ ≡ places)
 abbrev pub endedRow : Session → Session
 endedRow r = record { state = Ended; name = r .name; pool = r .pool; account = r .account; accepted = r .accepted; unsent = r .unsent; inside = r .inside }
 
+abbrev pub ended : Tables → ℕ → Tables
+ended t i = withSessions t (t .arrivals) (set (t .sessions) i (endedRow (session t i)))
+
 -- refused where no open session has that name
 abbrev pub endAt : ℕ → Tables → Option ℕ → Outcome
 endAt name t None = (Err (refused NoSuchSession), t)
-endAt name t (Some i) = (Ok name, withSessions t (t .arrivals) (set (t .sessions) i (endedRow (session t i))))
+endAt name t (Some i) = (Ok name, ended t i)
 
 abbrev pub endCall : ℕ → Tables → Outcome
 endCall name t = endAt name t (firstFit (OpenAs name) (t .sessions))
@@ -189,9 +195,13 @@ closeAt t (Some i) = cond (ltb 0 (session t i .unsent + session t i .inside)) (E
 abbrev pub closePlace : ℕ → Tables → Place
 closePlace name t = closeAt t (firstFit (EndedAs name) (t .sessions))
 
+-- the place is free again
+abbrev pub closed : Tables → ℕ → Tables
+closed t i = withSessions t (t .arrivals) (set (t .sessions) i freePlace)
+
 abbrev pub closeIn : ℕ → Tables → Place → Outcome
 closeIn name t (Err fault) = (Err fault, t)
-closeIn name t (Ok i) = (Ok name, withSessions t (t .arrivals) (set (t .sessions) i freePlace))
+closeIn name t (Ok i) = (Ok name, closed t i)
 
 abbrev pub closeCall : ℕ → Tables → Outcome
 closeCall name t = closeIn name t (closePlace name t)

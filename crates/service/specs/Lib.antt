@@ -3,3 +3,4 @@ pub mod Rows
 pub mod Calls
 pub mod Sound
 pub mod Laws
+pub mod Moments

@@ -1,6 +1,13 @@
 ghost use denote.Ref.{name};
+ghost use Prim.Native.Nat.{ℕ};
+ghost use lib.ListN.{length};
+ghost use mathlib.Core.List.{List};
 ghost use mathlib.Core.Path.{_≡_};
+ghost use Rattle.device.specs.Meaning.{Meaning};
+ghost use Rattle.line.specs.Line.{recordsOf};
 ghost use Rattle.service.specs.Calls.{newTables, poolCall, openCall, lineFull, arrivalCall, LineAfter, endCall, closeCall, backFull, Collected, BackAfter, DeviceAfter};
+ghost use Rattle.service.specs.Moments.{Leads, momentAt, momentOf, makesPool, opens, arrives, ends, closes, collects};
+ghost use Rattle.values.specs.declared.io.Io.{Io};
 use super::Service;
 use crate::fault::ServiceFault;
 use crate::rows::HandedBack;
@@ -30,6 +37,7 @@ impl<R: SharingRule> Service<R> {
         ensures answer { λ r. ⌜ r ≡ poolCall (present .micros) rates (now (self .entry) .tables) .0 ⌝ }
         ensures leaves { λ _. ⌜ now (self .exit) .tables ≡ poolCall (present .micros) rates (now (self .entry) .tables) .1 ⌝ }
         ensures rule { λ _. ⌜ now (self .exit) .rule ≡ now (self .entry) .rule ⌝ }
+        ensures step { λ r. ⌜ ((places : ℕ) (line : List Io) (device : Meaning) → Leads (makesPool (present .micros) rates) r (momentAt (now (self .entry) .tables) places line device) (momentAt (now (self .exit) .tables) places line device)) ⌝ }
     {
         self.tables.make_pool(present, rates)
     }
@@ -39,6 +47,7 @@ impl<R: SharingRule> Service<R> {
         ensures answer { λ r. ⌜ r ≡ openCall (present .micros) pool rates (now (self .entry) .tables) .0 ⌝ }
         ensures leaves { λ _. ⌜ now (self .exit) .tables ≡ openCall (present .micros) pool rates (now (self .entry) .tables) .1 ⌝ }
         ensures rule { λ _. ⌜ now (self .exit) .rule ≡ now (self .entry) .rule ⌝ }
+        ensures step { λ r. ⌜ ((places : ℕ) (line : List Io) (device : Meaning) → Leads (opens (present .micros) pool rates) r (momentAt (now (self .entry) .tables) places line device) (momentAt (now (self .exit) .tables) places line device)) ⌝ }
     {
         self.tables.open(present, pool, rates)
     }
@@ -50,6 +59,7 @@ impl<R: SharingRule> Service<R> {
         ensures rule { λ _. ⌜ now (self .exit) .rule ≡ now (self .entry) .rule ⌝ }
         ensures same { λ _. ⌜ name (now (waiting .exit) .places) ≡ name (now (waiting .entry) .places) ⌝ }
         ensures line { λ r. ⌜ LineAfter r io (now (now (waiting .entry) .places)) (now (waiting .entry) .len) (now (now (waiting .exit) .places)) (now (waiting .exit) .len) ⌝ }
+        ensures step { λ r. ⌜ ((device : Meaning) → Leads (arrives io) r (momentOf (now (self .entry) .tables) (now (now (waiting .entry) .places)) (now (waiting .entry) .len) device) (momentOf (now (self .exit) .tables) (now (now (waiting .exit) .places)) (now (waiting .exit) .len) device)) ⌝ }
     {
         self.tables.arrival(waiting, io)
     }
@@ -59,6 +69,7 @@ impl<R: SharingRule> Service<R> {
         ensures answer { λ r. ⌜ r ≡ endCall name (now (self .entry) .tables) .0 ⌝ }
         ensures leaves { λ _. ⌜ now (self .exit) .tables ≡ endCall name (now (self .entry) .tables) .1 ⌝ }
         ensures rule { λ _. ⌜ now (self .exit) .rule ≡ now (self .entry) .rule ⌝ }
+        ensures step { λ r. ⌜ ((places : ℕ) (line : List Io) (device : Meaning) → Leads (ends name) r (momentAt (now (self .entry) .tables) places line device) (momentAt (now (self .exit) .tables) places line device)) ⌝ }
     {
         self.tables.end(name)
     }
@@ -68,6 +79,7 @@ impl<R: SharingRule> Service<R> {
         ensures answer { λ r. ⌜ r ≡ closeCall name (now (self .entry) .tables) .0 ⌝ }
         ensures leaves { λ _. ⌜ now (self .exit) .tables ≡ closeCall name (now (self .entry) .tables) .1 ⌝ }
         ensures rule { λ _. ⌜ now (self .exit) .rule ≡ now (self .entry) .rule ⌝ }
+        ensures step { λ r. ⌜ ((places : ℕ) (line : List Io) (device : Meaning) → Leads (closes name) r (momentAt (now (self .entry) .tables) places line device) (momentAt (now (self .exit) .tables) places line device)) ⌝ }
     {
         self.tables.close(name)
     }
@@ -83,6 +95,7 @@ impl<R: SharingRule> Service<R> {
         ensures rule { λ _. ⌜ now (self .exit) .rule ≡ now (self .entry) .rule ⌝ }
         ensures same { λ _. ⌜ name (now (back .exit) .places) ≡ name (now (back .entry) .places) ⌝ }
         ensures line { λ r. ⌜ BackAfter r (now (now (back .entry) .places)) (now (back .entry) .len) (now (now (back .exit) .places)) (now (back .exit) .len) ⌝ }
+        ensures step { λ r. ⌜ ((places : ℕ) (waiting : List Io) → Leads (collects (length (now (now (back .entry) .places))) (recordsOf (now (now (back .entry) .places)) (now (back .entry) .len)) (recordsOf (now (now (back .exit) .places)) (now (back .exit) .len))) r (momentAt (now (self .entry) .tables) places waiting (means (now (device .entry)))) (momentAt (now (self .exit) .tables) places waiting (means (now (device .exit))))) ⌝ }
     {
         self.tables.collect(device, back)
     }
