@@ -1,10 +1,10 @@
 -- Moments of a service with its waiting line and device, and what each call, with its answer, leads from and to.
-use Prim.Native.Nat.{ℕ, _+_, _<_, min}
+use Prim.Native.Nat.{ℕ, _+_, min}
 use mathlib.Core.Bool.{Bool, false}
 use mathlib.Core.List.{List, [], _∷_, _++_}
 use mathlib.Core.Path.{_≡_}
 use lib.Dec.{leb, eqb}
-use lib.ListN.{length, set}
+use lib.ListN.{length}
 use Rattle.device.specs.Meaning.{Meaning, Took}
 use Rattle.line.specs.Line.{recordsOf}
 use Rattle.std.specs.declared.option.Option.the-variants.{Some, None}

@@ -1,8 +1,8 @@
 ghost use Prim.Native.Nat.{_<_};
-ghost use lib.ListN.{length, getD};
+ghost use lib.ListN.{length};
 ghost use mathlib.Core.Bool.{true};
 ghost use mathlib.Core.Path.{_≡_};
-ghost use Rattle.service.specs.Rows.{blankSession, isFree, isOpen, isEnded, isPresent, fits, firstFit};
+ghost use Rattle.service.specs.Rows.{isFree, isOpen, isEnded, isPresent, fits, firstFit};
 ghost use Rattle.std.specs.Options.{Cases};
 use crate::rows::Session;
 use crate::rows::State;
