@@ -29,24 +29,10 @@ use Rattle.service.specs.declared.rows.Tables.{Tables}
 use Rattle.service.specs.Faults.{refused}
 use Rattle.service.specs.Rows.{isOpen, isPresent, session, pool, blankSession, freePlace, firstFit, countsFit, unsentIn, reservesMade, reservesIn}
 use Rattle.service.specs.Calls.{newTables, poolIn, poolCall, placeFor, poolMade, openIn, openCall, openedRow, sessionOpened, withSessions, acceptedRow, arrivalAt, arrivalIn, arrivalCall, endedRow, endAt, endCall, closeAt, closeIn, closeCall, handedRow, handBackAt, handBack, Collected}
-use Rattle.service.specs.Sound.{Sound}
+use Rattle.service.specs.Sound.{Sound, Counts, Numbers}
 use Rattle.service.proofs.Finding.{found-within, found-fits}
 use Rattle.service.proofs.Sounding.{Kin, sound-row, sound-open, sound-pool, sound-new}
 use Rattle.service.proofs.Tables.{each-set, each-same}
-
-abbrev pub Counts : ℕ → List Session → Type 0
-Counts arrivals rows = (k : ℕ) → k < 64 → countsFit arrivals (getD rows k blankSession) ≡ true
-
-pub record Numbers (t : Tables) : Type 0 where
-  pub lawful : t .latest ≤ 1099511627775
-  pub places : t .made ≤ 16
-  pub openings : t .opened ≤ 4000000000
-  pub few : t .arrivals ≤ 4000000000
-  pub counts : Counts (t .arrivals) (t .sessions)
-  pub wide : length (t .sessions) ≡ 64
-  pub deep : length (t .pools) ≡ 16
-  pub numbered : t .orders + unsentIn (t .sessions) ≤ t .arrivals + t .opened + t .made
-  pub sound : ∥ Sound t ∥₁
 
 -- the same as the type says it
 abbrev pub Ghosts : Tables → Type 0

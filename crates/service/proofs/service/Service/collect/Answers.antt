@@ -1,6 +1,7 @@
 use borrow.Author.Needs.{needs}
 use Rattle.service.proofs.Stepping.{collect-step}
-use Rattle.service.proofs.Facts.{Numbers, said, collect-keeps}
+use Rattle.service.specs.Sound.{Numbers}
+use Rattle.service.proofs.Facts.{said, collect-keeps}
 use Rattle.service.proofs.service.Service.collect.Needs as need
 
 pub ghost-self : need.ghost-self
