@@ -17,7 +17,7 @@ pub enum Wanted {
 }
 
 impl State {
-    pub fn is_free(self) -> bool
+    pub(crate) fn is_free(self) -> bool
         ensures { λ r. ⌜ r ≡ isFree self ⌝ }
     {
         match self {
@@ -26,7 +26,7 @@ impl State {
         }
     }
 
-    pub fn is_open(self) -> bool
+    pub(crate) fn is_open(self) -> bool
         ensures { λ r. ⌜ r ≡ isOpen self ⌝ }
     {
         match self {
@@ -35,7 +35,7 @@ impl State {
         }
     }
 
-    pub fn is_ended(self) -> bool
+    pub(crate) fn is_ended(self) -> bool
         ensures { λ r. ⌜ r ≡ isEnded self ⌝ }
     {
         match self {
@@ -44,7 +44,7 @@ impl State {
         }
     }
 
-    pub fn is_present(self) -> bool
+    pub(crate) fn is_present(self) -> bool
         ensures { λ r. ⌜ r ≡ isPresent self ⌝ }
     {
         match self {

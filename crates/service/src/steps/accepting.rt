@@ -53,7 +53,11 @@ impl Tables {
     }
 
     // Accepts an I/O into the waiting line.
-    pub fn arrival(&mut self, waiting: &mut Line<'_, Io>, io: Io) -> Result<u32, ServiceFault>
+    pub(crate) fn arrival(
+        &mut self,
+        waiting: &mut Line<'_, Io>,
+        io: Io,
+    ) -> Result<u32, ServiceFault>
         requires counts { ⌜ ((k : ℕ) → k < 64 → countsFit (now self .arrivals) (session (now self) k) ≡ true) ⌝ }
         ensures answer { λ r. ⌜ r ≡ arrivalCall (lineFull (now (now (waiting .entry) .places)) (now (waiting .entry) .len)) io (now (self .entry)) .0 ⌝ }
         ensures leaves { λ _. ⌜ now (self .exit) ≡ arrivalCall (lineFull (now (now (waiting .entry) .places)) (now (waiting .entry) .len)) io (now (self .entry)) .1 ⌝ }

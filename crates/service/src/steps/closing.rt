@@ -28,7 +28,7 @@ impl Tables {
     }
 
     // Closes the ended session of a name.
-    pub fn close(&mut self, name: u32) -> Result<u32, ServiceFault>
+    pub(crate) fn close(&mut self, name: u32) -> Result<u32, ServiceFault>
         ensures answer { λ r. ⌜ r ≡ closeCall name (now (self .entry)) .0 ⌝ }
         ensures leaves { λ _. ⌜ now (self .exit) ≡ closeCall name (now (self .entry)) .1 ⌝ }
     {

@@ -25,7 +25,7 @@ impl Session {
 
 impl Tables {
     // Counts a run that was taken off the device as handed back, unless it is foreign.
-    pub fn hand_back(&mut self, run: Run) -> HandedBack
+    pub(crate) fn hand_back(&mut self, run: Run) -> HandedBack
         ensures answer { λ r. ⌜ r ≡ handBack run (now (self .entry)) .0 ⌝ }
         ensures leaves { λ _. ⌜ now (self .exit) ≡ handBack run (now (self .entry)) .1 ⌝ }
     {
@@ -43,7 +43,7 @@ impl Tables {
     }
 
     // Takes one done run off the device and adds it to the hand-back line.
-    pub fn collect<D: Device>(
+    pub(crate) fn collect<D: Device>(
         &mut self,
         device: &mut D,
         back: &mut Line<'_, HandedBack>,

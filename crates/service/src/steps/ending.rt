@@ -9,7 +9,7 @@ use crate::rows::Tables;
 
 impl Tables {
     // Ends the open session of a name.
-    pub fn end(&mut self, name: u32) -> Result<u32, ServiceFault>
+    pub(crate) fn end(&mut self, name: u32) -> Result<u32, ServiceFault>
         ensures answer { λ r. ⌜ r ≡ endCall name (now (self .entry)) .0 ⌝ }
         ensures leaves { λ _. ⌜ now (self .exit) ≡ endCall name (now (self .entry)) .1 ⌝ }
     {

@@ -14,7 +14,7 @@ use values::settings::Settings;
 
 impl Tables {
     // The tables with no pools and no sessions.
-    pub fn new(settings: Settings) -> Tables
+    pub(crate) fn new(settings: Settings) -> Tables
         ensures { λ t. ⌜ t ≡ newTables (settings .throughput) (settings .«cap») ⌝ }
     {
         Tables {
@@ -48,7 +48,7 @@ impl Tables {
     }
 
     // Makes a pool.
-    pub fn make_pool(&mut self, present: Instant, rates: Rates) -> Result<u8, ServiceFault>
+    pub(crate) fn make_pool(&mut self, present: Instant, rates: Rates) -> Result<u8, ServiceFault>
         requires places { ⌜ now self .made ≤ 16 ⌝ }
         requires numbers { ⌜ now self .orders ≤ 8000000016 ⌝ }
         ensures answer { λ r. ⌜ r ≡ poolCall (present .micros) rates (now (self .entry)) .0 ⌝ }

@@ -55,7 +55,12 @@ impl Tables {
     }
 
     // Opens a session.
-    pub fn open(&mut self, present: Instant, pool: u8, rates: Rates) -> Result<u32, ServiceFault>
+    pub(crate) fn open(
+        &mut self,
+        present: Instant,
+        pool: u8,
+        rates: Rates,
+    ) -> Result<u32, ServiceFault>
         requires places { ⌜ now self .made ≤ 16 ⌝ }
         requires numbers { ⌜ now self .orders ≤ 8000000016 ⌝ }
         ensures answer { λ r. ⌜ r ≡ openCall (present .micros) pool rates (now (self .entry)) .0 ⌝ }
