@@ -1,9 +1,9 @@
 -- What the type says of a service's tables in numbers, and that every call keeps it.
-use Prim.Native.Nat.{ℕ, _+_, _-_, _≤_, _<_}
-use mathlib.Core.Bool.{Bool, true, false, cond, _&&_}
-use mathlib.Core.List.{List, [], _∷_}
+use Prim.Native.Nat.{ℕ, _+_, _≤_, _<_}
+use mathlib.Core.Bool.{Bool, true, false, cond}
+use mathlib.Core.List.{List}
 use mathlib.Core.Logic.{∥∥₁-map}
-use mathlib.Core.Path.{_≡_, refl, sym, subst, ap, _∙_}
+use mathlib.Core.Path.{_≡_, refl, sym, subst, _∙_}
 use native.Mathlib.Omega.{arith}
 use lib.Dec.{leb, ltb, eqb, lit≤}
 use lib.ListN.{length, getD, set, length-set}
@@ -13,15 +13,13 @@ use Rattle.std.specs.declared.option.Option.the-variants.{Some, None}
 use Rattle.std.specs.declared.result.Result.{Result}
 use Rattle.std.specs.declared.result.Result.the-variants.{Ok, Err}
 use Rattle.device.specs.Meaning.{Meaning}
-use Rattle.std.specs.shelf.Lists.{sumBy}
 use Rattle.std.proofs.shelf.Sums.{sumBy-set}
 use Rattle.std.proofs.shelf.Tests.{both-ways, leb-true, leb-false, le-leb, ltb-false, and-parts, and-from, cond-both}
 use Rattle.values.specs.declared.io.Io.{Io}
 use Rattle.values.specs.declared.io.Run.{Run}
 use Rattle.values.specs.declared.rates.Rates.{Rates}
-use Rattle.service.specs.declared.find.Wanted.{Wanted}
 use Rattle.service.specs.declared.find.Wanted.the-variants.{OpenAs, EndedAs, PresentAs, FreePlace}
-use Rattle.service.specs.declared.fault.ServiceWhy.the-variants.{InstantBefore, NoSuchPool, NoSuchSession, NoPlace, NoReserve, WaitingLineFull, CountedOut, NotHandedBack}
+use Rattle.service.specs.declared.fault.ServiceWhy.the-variants.{InstantBefore, NoSuchPool, NoPlace, NoReserve, WaitingLineFull, CountedOut, NotHandedBack}
 use Rattle.service.specs.declared.fault.ServiceFault.{ServiceFault}
 use Rattle.service.specs.declared.rows.HandedBack.{HandedBack}
 use Rattle.service.specs.declared.rows.Session.{Session}
@@ -30,25 +28,11 @@ use Rattle.service.specs.declared.rows.State.the-variants.{Free, Open, Ended}
 use Rattle.service.specs.declared.rows.Tables.{Tables}
 use Rattle.service.specs.Faults.{refused}
 use Rattle.service.specs.Rows.{isOpen, isPresent, session, pool, blankSession, freePlace, firstFit, countsFit, unsentIn, reservesMade, reservesIn}
-use Rattle.service.specs.Calls.{newTables, poolIn, poolCall, poolPlace, placeFor, poolMade, openIn, openCall, openPlace, openedRow, sessionOpened, withSessions, acceptedRow, arrivalAt, arrivalIn, arrivalCall, endedRow, endAt, endCall, closeAt, closeIn, closeCall, handedRow, handBackAt, handBack, Collected}
-use Rattle.service.specs.Sound.{Sound}
+use Rattle.service.specs.Calls.{newTables, poolIn, poolCall, placeFor, poolMade, openIn, openCall, openedRow, sessionOpened, withSessions, acceptedRow, arrivalAt, arrivalIn, arrivalCall, endedRow, endAt, endCall, closeAt, closeIn, closeCall, handedRow, handBackAt, handBack, Collected}
+use Rattle.service.specs.Sound.{Sound, Counts, Numbers}
 use Rattle.service.proofs.Finding.{found-within, found-fits}
 use Rattle.service.proofs.Sounding.{Kin, sound-row, sound-open, sound-pool, sound-new}
 use Rattle.service.proofs.Tables.{each-set, each-same}
-
-abbrev pub Counts : ℕ → List Session → Type 0
-Counts arrivals rows = (k : ℕ) → k < 64 → countsFit arrivals (getD rows k blankSession) ≡ true
-
-pub record Numbers (t : Tables) : Type 0 where
-  pub lawful : t .latest ≤ 1099511627775
-  pub places : t .made ≤ 16
-  pub openings : t .opened ≤ 4000000000
-  pub few : t .arrivals ≤ 4000000000
-  pub counts : Counts (t .arrivals) (t .sessions)
-  pub wide : length (t .sessions) ≡ 64
-  pub deep : length (t .pools) ≡ 16
-  pub numbered : t .orders + unsentIn (t .sessions) ≤ t .arrivals + t .opened + t .made
-  pub sound : ∥ Sound t ∥₁
 
 -- the same as the type says it
 abbrev pub Ghosts : Tables → Type 0
@@ -66,9 +50,6 @@ Ghosts t =
 
 pub said : (t : Tables) → Numbers t → Ghosts t
 said t f = (f .lawful, (f .places, (f .openings, (f .few, (f .counts, (f .wide, (f .deep, (f .numbered, (f .sound, tt)))))))))
-
-pub few-orders : (t : Tables) → Numbers t → t .orders ≤ 8000000016
-few-orders t f = omega arith
 
 counts-are : (n : ℕ) (r : Session) → r .unsent + r .inside ≤ r .accepted → r .accepted ≤ n → countsFit n r ≡ true
 counts-are n r p q = and-from (leb (r .unsent + r .inside) (r .accepted)) (leb (r .accepted) n) (le-leb _ _ p) (le-leb _ _ q)

@@ -4,3 +4,4 @@ pub mod Sounding
 pub mod Facts
 pub mod Reserves
 pub mod Stepping
+pub mod Lasting

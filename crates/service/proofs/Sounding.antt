@@ -1,7 +1,7 @@
 -- What holds of the tables at every moment is kept where a row changes, a session is opened and a pool is made.
 use Prim.Native.Nat.{ℕ, _+_, _≤_, _<_, zero-le, suc}
 use mathlib.Core.Bool.{Bool, true, false, cond, _&&_}
-use mathlib.Core.List.{List, [], _∷_, _++_}
+use mathlib.Core.List.{List, [], _∷_}
 use mathlib.Core.Logic.{_≢_, ⊎-elim}
 use mathlib.Core.Path.{_≡_, refl, sym, subst, ap, _∙_}
 use native.Mathlib.Nat.{le-of-eq}
@@ -14,7 +14,7 @@ use Rattle.account.proofs.Holding.{account-laws}
 use Rattle.std.specs.shelf.Lists.{sumBy}
 use Rattle.std.proofs.shelf.Lists.{getD-set-same, getD-set-other, getD-replicate, getD-past, take-more-set}
 use Rattle.std.proofs.shelf.Sums.{sumBy-cons, sumBy-set, sumBy-push}
-use Rattle.std.proofs.shelf.Tests.{cases-eq, cases-lt, both-ways, leb-true, le-leb, and-parts, and-from, cond-true, cond-false, eq-eqb, ne-eqb, cases-bool}
+use Rattle.std.proofs.shelf.Tests.{cases-eq, cases-lt, both-ways, leb-true, le-leb, and-parts, and-from, cond-true, cond-false, eq-eqb, ne-eqb}
 use Rattle.values.specs.declared.rates.Rates.{Rates}
 use Rattle.service.specs.declared.rows.Pool.{Pool}
 use Rattle.service.specs.declared.rows.Session.{Session}

@@ -1,12 +1,12 @@
 -- What a call answers and leaves is a step from one moment to another.
 use Prim.Native.Nat.{ℕ, _+_, _<_, _≤_, min}
-use mathlib.Core.Bool.{Bool, true, false, cond}
+use mathlib.Core.Bool.{Bool, true, false}
 use mathlib.Core.List.{List, [], _∷_, _++_}
 use mathlib.Core.Path.{_≡_, refl, sym, subst, ap, _∙_}
 use native.Mathlib.Omega.{arith}
 use lib.Dec.{leb, eqb}
-use lib.ListN.{length, set, take, length-set, length-take}
-use Rattle.device.specs.Meaning.{Meaning, Took}
+use lib.ListN.{length, set, length-set, length-take}
+use Rattle.device.specs.Meaning.{Meaning}
 use Rattle.line.specs.Line.{recordsOf}
 use Rattle.std.proofs.shelf.Lists.{take-more-set}
 use Rattle.std.proofs.shelf.Tests.{leb-false, eqb-false}
@@ -17,14 +17,12 @@ use Rattle.std.specs.declared.result.Result.the-variants.{Ok, Err}
 use Rattle.values.specs.declared.io.Io.{Io}
 use Rattle.values.specs.declared.rates.Rates.{Rates}
 use Rattle.service.specs.declared.fault.ServiceFault.{ServiceFault}
-use Rattle.service.specs.declared.fault.ServiceWhy.the-variants.{WaitingLineFull, CountedOut}
 use Rattle.service.specs.declared.find.Wanted.the-variants.{OpenAs}
 use Rattle.service.specs.declared.rows.HandedBack.{HandedBack}
 use Rattle.service.specs.declared.rows.Tables.{Tables}
-use Rattle.service.specs.Calls.{Place, arrivalAt, CollectRefused, poolPlace, poolIn, poolCall, openPlace, openIn, openCall, arrivalPlace, arrivalIn, arrivalCall, arrived, lineFull, LineAfter, endAt, endCall, closePlace, closeIn, closeCall, handBack, backFull, Collected, BackAfter}
-use Rattle.service.specs.Faults.{refused}
+use Rattle.service.specs.Calls.{Place, arrivalAt, CollectRefused, poolPlace, poolIn, poolCall, openPlace, openIn, openCall, arrivalPlace, arrivalIn, arrivalCall, arrived, lineFull, LineAfter, endAt, endCall, closePlace, closeIn, closeCall, backFull, Collected, BackAfter}
 use Rattle.service.specs.Rows.{session, firstFit}
-use Rattle.service.specs.Moments.{Moment, momentOf, withTables, fullAt, arrivedMoment, PoolStep, OpenStep, ArrivalStep, EndStep, CloseStep, CollectStep}
+use Rattle.service.specs.Moments.{Moment, momentOf, withTables, fullAt, PoolStep, OpenStep, ArrivalStep, EndStep, CloseStep, CollectStep}
 
 -- a step that is told by equations of the answer and of what is left
 told : (Step : Result ℕ ServiceFault → Moment → Moment → Type 0) (m : Moment) (o : Result ℕ ServiceFault × Tables) (r : Result ℕ ServiceFault) (t′ : Tables) → r ≡ o .0 → t′ ≡ o .1 → Step (o .0) m (withTables m (o .1)) → Step r m (withTables m t′)

@@ -1,14 +1,11 @@
 -- One row of a table changed: what holds of each row, and a sum over the rows.
-use mathlib.Core.Path.{_≡_, refl, sym, subst}
+use mathlib.Core.Path.{sym, subst}
 use mathlib.Core.Logic.{_≢_, ⊎-elim}
 use mathlib.Core.List.{List}
-use Prim.Native.Nat.{ℕ, _+_, _≤_, _<_}
-use native.Mathlib.Omega.{arith}
+use Prim.Native.Nat.{ℕ, _<_}
 use lib.ListN.{length, getD, set, replicate}
-use Rattle.std.specs.shelf.Lists.{sumBy}
-use Rattle.std.proofs.shelf.Lists.{getD-set-same, getD-set-other, getD-replicate, set-past}
-use Rattle.std.proofs.shelf.Sums.{sumBy-set}
-use Rattle.std.proofs.shelf.Tests.{cases-eq, cases-lt}
+use Rattle.std.proofs.shelf.Lists.{getD-set-same, getD-set-other, getD-replicate}
+use Rattle.std.proofs.shelf.Tests.{cases-eq}
 
 pub each-set : {X : Type 0} (P : X → Type 0) (xs : List X) (n i : ℕ) (y d : X) → i < length xs → ((k : ℕ) → k < n → P (getD xs k d)) → P y → (k : ℕ) → k < n → P (getD (set xs i y) k d)
 each-set P xs n i y d l all p k h =

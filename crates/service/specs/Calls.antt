@@ -19,7 +19,7 @@ use Rattle.service.specs.declared.fault.ServiceWhy.the-variants.{InstantBefore
 use Rattle.service.specs.declared.find.Wanted.the-variants.{OpenAs, EndedAs, PresentAs, FreePlace}
 use Rattle.service.specs.declared.rows.HandedBack.{HandedBack}
 use Rattle.service.specs.declared.rows.Session.{Session}
-use Rattle.service.specs.declared.rows.State.the-variants.{Free, Open, Ended}
+use Rattle.service.specs.declared.rows.State.the-variants.{Open, Ended}
 use Rattle.service.specs.declared.rows.Tables.{Tables}
 use Rattle.service.specs.Faults.{refused}
 use Rattle.service.specs.Rows.{session, pool, noPool, freePlace, firstFit, reservesMade, reservesIn}

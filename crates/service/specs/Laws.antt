@@ -1,4 +1,4 @@
--- What the rules say of reserves, by the very function that the making of a pool is.
+-- What holds of the calls: every moment has sound tables, and what the rules say of reserves.
 use Prim.Native.Nat.{ℕ, _≤_}
 use mathlib.Core.Path.{_≡_}
 use Rattle.std.specs.declared.result.Result.the-variants.{Ok, Err}
@@ -7,6 +7,13 @@ use Rattle.service.specs.declared.fault.ServiceFault.{ServiceFault}
 use Rattle.service.specs.declared.rows.Tables.{Tables}
 use Rattle.service.specs.Calls.{newTables, poolCall}
 use Rattle.service.specs.Faults.{whyNumber}
+use Rattle.service.specs.Moments.{Moment, Call, Answer, Leads}
+use Rattle.service.specs.Sound.{Numbers}
+
+-- the tables of a new service are sound, and every call, whatever it answers, leaves sound tables as such
+pub record StaysSound : Type 0 where
+  pub at-first : (throughput most : ℕ) → Numbers (newTables throughput most)
+  pub from-then : (call : Call) (r : Answer call) (m m′ : Moment) → Leads call r m m′ → Numbers (m .tables) → Numbers (m′ .tables)
 
 -- with a throughput of 112, pools with the reserves 60 and 52 pass; after 60, one with 53 gives refusal 11, and nothing changes
 abbrev pub SixtyThen : ℕ → Tables → Type 0

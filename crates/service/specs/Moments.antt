@@ -1,15 +1,16 @@
 -- Moments of a service with its waiting line and device, and what each call, with its answer, leads from and to.
-use Prim.Native.Nat.{ℕ, _+_, _<_, min}
+use Prim.Native.Nat.{ℕ, _+_, min}
 use mathlib.Core.Bool.{Bool, false}
 use mathlib.Core.List.{List, [], _∷_, _++_}
 use mathlib.Core.Path.{_≡_}
 use lib.Dec.{leb, eqb}
-use lib.ListN.{length, set}
+use lib.ListN.{length}
 use Rattle.device.specs.Meaning.{Meaning, Took}
 use Rattle.line.specs.Line.{recordsOf}
 use Rattle.std.specs.declared.option.Option.the-variants.{Some, None}
 use Rattle.std.specs.declared.result.Result.{Result}
 use Rattle.std.specs.declared.result.Result.the-variants.{Ok, Err}
+use Rattle.values.specs.declared.instant.Instant.{Instant}
 use Rattle.values.specs.declared.io.Io.{Io}
 use Rattle.values.specs.declared.rates.Rates.{Rates}
 use Rattle.service.specs.declared.fault.ServiceFault.{ServiceFault}
@@ -81,8 +82,8 @@ CollectStep room line line′ (Err fault) m m′ = CollectRefused (eqb (length l
 -- ---- any of the calls
 
 pub data Call : Type 0 where
-  makesPool : (micros : ℕ) → Rates → Call
-  opens : (micros number : ℕ) → Rates → Call
+  makesPool : Instant → Rates → Call
+  opens : Instant → (number : ℕ) → Rates → Call
   arrives : Io → Call
   ends : (name : ℕ) → Call
   closes : (name : ℕ) → Call
@@ -90,8 +91,8 @@ pub data Call : Type 0 where
 
 -- what a call answers
 abbrev pub Answer : Call → Type 0
-Answer (makesPool micros rates) = Result ℕ ServiceFault
-Answer (opens micros number rates) = Result ℕ ServiceFault
+Answer (makesPool present rates) = Result ℕ ServiceFault
+Answer (opens present number rates) = Result ℕ ServiceFault
 Answer (arrives io) = Result ℕ ServiceFault
 Answer (ends name) = Result ℕ ServiceFault
 Answer (closes name) = Result ℕ ServiceFault
@@ -99,8 +100,8 @@ Answer (collects room line line′) = Result HandedBack ServiceFault
 
 -- this call, with this answer, leads from this moment to that one
 abbrev pub Leads : (call : Call) → Answer call → Moment → Moment → Type 0
-Leads (makesPool micros rates) r m m′ = PoolStep micros rates r m m′
-Leads (opens micros number rates) r m m′ = OpenStep micros number rates r m m′
+Leads (makesPool present rates) r m m′ = PoolStep (present .micros) rates r m m′
+Leads (opens present number rates) r m m′ = OpenStep (present .micros) number rates r m m′
 Leads (arrives io) r m m′ = ArrivalStep io r m m′
 Leads (ends name) r m m′ = EndStep name r m m′
 Leads (closes name) r m m′ = CloseStep name r m m′

@@ -2,14 +2,13 @@
 use Prim.Native.Nat.{ℕ, _+_}
 use mathlib.Core.Bool.{Bool, true, false, cond, _&&_}
 use mathlib.Core.List.{List, [], _∷_}
-use lib.Dec.{eqb, leb, ltb}
-use lib.ListN.{getD, set, take, replicate}
+use lib.Dec.{eqb, leb}
+use lib.ListN.{getD, take}
 use Rattle.account.specs.declared.row.Account.{Account}
 use Rattle.std.specs.declared.option.Option.{Option}
 use Rattle.std.specs.declared.option.Option.the-variants.{Some, None}
 use Rattle.std.specs.shelf.Lists.{sumBy}
 use Rattle.usage.specs.Usage.{unused}
-use Rattle.usage.specs.declared.ServiceRecord.{ServiceRecord}
 use Rattle.service.specs.declared.find.Wanted.{Wanted}
 use Rattle.service.specs.declared.find.Wanted.the-variants.{OpenAs, EndedAs, PresentAs, FreePlace}
 use Rattle.service.specs.declared.rows.Pool.{Pool}

@@ -1,14 +1,16 @@
 -- What holds of a service's tables at every moment.
 use Prim.Native.Nat.{ℕ, _+_, _<_, _≤_}
 use mathlib.Core.Bool.{Bool, true, _&&_}
+use mathlib.Core.List.{List}
 use mathlib.Core.Path.{_≡_}
 use lib.Dec.{leb}
+use lib.ListN.{length, getD}
 use Rattle.account.specs.Accounts.{isSound}
 use Rattle.account.specs.declared.row.Account.{Account}
 use Rattle.std.specs.shelf.Lists.{sumBy}
 use Rattle.service.specs.declared.rows.Session.{Session}
 use Rattle.service.specs.declared.rows.Tables.{Tables}
-use Rattle.service.specs.Rows.{session, pool, isPresent, reservesMade, reservesIn}
+use Rattle.service.specs.Rows.{session, pool, blankSession, isPresent, reservesMade, reservesIn, countsFit, unsentIn}
 
 -- a place has a present session
 abbrev pub Present : Tables → ℕ → Type 0
@@ -59,3 +61,19 @@ pub record Sound (t : Tables) : Type 0 where
   pub pool-within : (p : ℕ) → p < t .made → reservesIn p (t .sessions) ≤ pool t p .account .reserve
   -- what the sessions accepted is among all arrivals
   pub accepted-within : sumBy (λ (r : Session). r .accepted) (t .sessions) ≤ t .arrivals
+
+-- each row's counts fit
+abbrev pub Counts : ℕ → List Session → Type 0
+Counts arrivals rows = (k : ℕ) → k < 64 → countsFit arrivals (getD rows k blankSession) ≡ true
+
+-- the same with what is said in numbers: no order number, arrival number or count can overflow
+pub record Numbers (t : Tables) : Type 0 where
+  pub lawful : t .latest ≤ 1099511627775
+  pub places : t .made ≤ 16
+  pub openings : t .opened ≤ 4000000000
+  pub few : t .arrivals ≤ 4000000000
+  pub counts : Counts (t .arrivals) (t .sessions)
+  pub wide : length (t .sessions) ≡ 64
+  pub deep : length (t .pools) ≡ 16
+  pub numbered : t .orders + unsentIn (t .sessions) ≤ t .arrivals + t .opened + t .made
+  pub sound : ∥ Sound t ∥₁

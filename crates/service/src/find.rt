@@ -1,8 +1,8 @@
 ghost use Prim.Native.Nat.{_<_};
-ghost use lib.ListN.{length, getD};
+ghost use lib.ListN.{length};
 ghost use mathlib.Core.Bool.{true};
 ghost use mathlib.Core.Path.{_≡_};
-ghost use Rattle.service.specs.Rows.{blankSession, isFree, isOpen, isEnded, isPresent, fits, firstFit};
+ghost use Rattle.service.specs.Rows.{isFree, isOpen, isEnded, isPresent, fits, firstFit};
 ghost use Rattle.std.specs.Options.{Cases};
 use crate::rows::Session;
 use crate::rows::State;
@@ -17,7 +17,7 @@ pub enum Wanted {
 }
 
 impl State {
-    pub fn is_free(self) -> bool
+    pub(crate) fn is_free(self) -> bool
         ensures { λ r. ⌜ r ≡ isFree self ⌝ }
     {
         match self {
@@ -26,7 +26,7 @@ impl State {
         }
     }
 
-    pub fn is_open(self) -> bool
+    pub(crate) fn is_open(self) -> bool
         ensures { λ r. ⌜ r ≡ isOpen self ⌝ }
     {
         match self {
@@ -35,7 +35,7 @@ impl State {
         }
     }
 
-    pub fn is_ended(self) -> bool
+    pub(crate) fn is_ended(self) -> bool
         ensures { λ r. ⌜ r ≡ isEnded self ⌝ }
     {
         match self {
@@ -44,7 +44,7 @@ impl State {
         }
     }
 
-    pub fn is_present(self) -> bool
+    pub(crate) fn is_present(self) -> bool
         ensures { λ r. ⌜ r ≡ isPresent self ⌝ }
     {
         match self {

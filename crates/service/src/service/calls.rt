@@ -37,7 +37,7 @@ impl<R: SharingRule> Service<R> {
         ensures answer { λ r. ⌜ r ≡ poolCall (present .micros) rates (now (self .entry) .tables) .0 ⌝ }
         ensures leaves { λ _. ⌜ now (self .exit) .tables ≡ poolCall (present .micros) rates (now (self .entry) .tables) .1 ⌝ }
         ensures rule { λ _. ⌜ now (self .exit) .rule ≡ now (self .entry) .rule ⌝ }
-        ensures step { λ r. ⌜ ((places : ℕ) (line : List Io) (device : Meaning) → Leads (makesPool (present .micros) rates) r (momentAt (now (self .entry) .tables) places line device) (momentAt (now (self .exit) .tables) places line device)) ⌝ }
+        ensures step { λ r. ⌜ ((places : ℕ) (line : List Io) (device : Meaning) → Leads (makesPool present rates) r (momentAt (now (self .entry) .tables) places line device) (momentAt (now (self .exit) .tables) places line device)) ⌝ }
     {
         self.tables.make_pool(present, rates)
     }
@@ -47,7 +47,7 @@ impl<R: SharingRule> Service<R> {
         ensures answer { λ r. ⌜ r ≡ openCall (present .micros) pool rates (now (self .entry) .tables) .0 ⌝ }
         ensures leaves { λ _. ⌜ now (self .exit) .tables ≡ openCall (present .micros) pool rates (now (self .entry) .tables) .1 ⌝ }
         ensures rule { λ _. ⌜ now (self .exit) .rule ≡ now (self .entry) .rule ⌝ }
-        ensures step { λ r. ⌜ ((places : ℕ) (line : List Io) (device : Meaning) → Leads (opens (present .micros) pool rates) r (momentAt (now (self .entry) .tables) places line device) (momentAt (now (self .exit) .tables) places line device)) ⌝ }
+        ensures step { λ r. ⌜ ((places : ℕ) (line : List Io) (device : Meaning) → Leads (opens present pool rates) r (momentAt (now (self .entry) .tables) places line device) (momentAt (now (self .exit) .tables) places line device)) ⌝ }
     {
         self.tables.open(present, pool, rates)
     }

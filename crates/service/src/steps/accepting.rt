@@ -1,6 +1,5 @@
-ghost use Prim.Native.Nat.{ℕ, _+_, _<_, _≤_};
+ghost use Prim.Native.Nat.{ℕ, _<_};
 ghost use denote.Ref.{name};
-ghost use lib.ListN.{length, set};
 ghost use mathlib.Core.Bool.{true, false};
 ghost use mathlib.Core.Path.{_≡_};
 ghost use Rattle.service.specs.Calls.{acceptedRow, arrivalPlace, arrivalCall, lineFull, LineAfter};

@@ -1,7 +1,8 @@
 use borrow.Author.Needs.{needs}
 use Rattle.service.proofs.Stepping.{arrival-step}
 use mathlib.Core.Path.{sym, subst}
-use Rattle.service.proofs.Facts.{Numbers, Ghosts, said, arrival-keeps}
+use Rattle.service.specs.Sound.{Numbers}
+use Rattle.service.proofs.Facts.{Ghosts, said, arrival-keeps}
 use Rattle.service.proofs.service.Service.arrival.Needs as need
 
 pub ghost-self : need.ghost-self

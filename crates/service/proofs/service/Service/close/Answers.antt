@@ -1,5 +1,6 @@
 use mathlib.Core.Path.{sym, subst}
-use Rattle.service.proofs.Facts.{Numbers, Ghosts, said, close-keeps}
+use Rattle.service.specs.Sound.{Numbers}
+use Rattle.service.proofs.Facts.{Ghosts, said, close-keeps}
 use Rattle.service.proofs.service.Service.close.Needs as need
 
 pub ghost-self : need.ghost-self

@@ -1,10 +1,7 @@
 use borrow.Author.Needs.{needs}
 use Rattle.service.proofs.Stepping.{collect-step}
-use mathlib.Core.Path.{_≡_, sym, subst}
-use Rattle.std.specs.declared.result.Result.{Result}
-use Rattle.std.specs.declared.result.Result.the-variants.{Ok, Err}
-use Rattle.service.specs.Calls.{Collected}
-use Rattle.service.proofs.Facts.{Numbers, Ghosts, said, hand-back-keeps, collect-keeps}
+use Rattle.service.specs.Sound.{Numbers}
+use Rattle.service.proofs.Facts.{said, collect-keeps}
 use Rattle.service.proofs.service.Service.collect.Needs as need
 
 pub ghost-self : need.ghost-self

@@ -1,5 +1,6 @@
 use mathlib.Core.Path.{sym, subst}
-use Rattle.service.proofs.Facts.{Numbers, Ghosts, said, end-keeps}
+use Rattle.service.specs.Sound.{Numbers}
+use Rattle.service.proofs.Facts.{Ghosts, said, end-keeps}
 use Rattle.service.proofs.service.Service.end.Needs as need
 
 pub ghost-self : need.ghost-self

@@ -1,5 +1,6 @@
 use mathlib.Core.Path.{sym, subst}
-use Rattle.service.proofs.Facts.{Numbers, Ghosts, said, pool-keeps}
+use Rattle.service.specs.Sound.{Numbers}
+use Rattle.service.proofs.Facts.{Ghosts, said, pool-keeps}
 use Rattle.service.proofs.service.Service.make_pool.Needs as need
 
 pub ghost-self : need.ghost-self
