@@ -3,3 +3,4 @@ pub mod Extents
 pub mod Refusals
 pub mod Ios
 pub mod Rates
+pub mod Settings

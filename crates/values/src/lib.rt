@@ -5,3 +5,4 @@ pub mod fault;
 pub mod instant;
 pub mod io;
 pub mod rates;
+pub mod settings;
