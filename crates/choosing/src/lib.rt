@@ -1,0 +1,2 @@
+// Choosing: which session sends next, and when to look again.
+pub mod free;
