@@ -1,6 +1,6 @@
 -- Which sessions are free to go.
 use Prim.Native.Nat.{ℕ}
-use mathlib.Core.Bool.{Bool, cond, _&&_}
+use mathlib.Core.Bool.{Bool, false, cond, _&&_}
 use mathlib.Core.List.{List}
 use lib.Dec.{leb, ltb}
 use lib.ListN.{getD}
@@ -39,3 +39,7 @@ hasHead t heads k = isSome (usableHead (session t k) (heads k))
 -- it has one, and its own and its pool's limit buckets let a run go
 abbrev pub isFreeToGo : Tables → (ℕ → Option HeadRun) → ℕ → ℕ → Bool
 isFreeToGo t heads micros k = hasHead t heads k && (letsGo micros (session t k .account) && poolLetsGo t micros (session t k .pool))
+
+-- the places that an array of answers has as free
+abbrev pub freeIn : List Bool → ℕ → Bool
+freeIn free k = getD free k false

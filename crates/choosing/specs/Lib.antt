@@ -1,1 +1,5 @@
 pub mod Free
+pub mod Picks
+pub mod Due
+pub mod Spare
+pub mod Chosen

@@ -1,2 +1,5 @@
 // Choosing: which session sends next, and when to look again.
+pub mod choose;
+pub mod due;
 pub mod free;
+pub mod spare;
