@@ -1,1 +1,3 @@
 pub mod Filling
+pub mod Agreeing
+pub mod Keyed

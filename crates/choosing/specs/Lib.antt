@@ -3,3 +3,4 @@ pub mod Picks
 pub mod Due
 pub mod Spare
 pub mod Chosen
+pub mod Wake

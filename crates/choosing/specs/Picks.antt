@@ -11,6 +11,6 @@ abbrev pub leastPlace : {X : Type 0} → (X → X → Bool) → ℕ → (ℕ →
 leastPlace before n key = placeOf (leastOf before (map key (counting 0 n)))
 
 -- one of the first n places passes a test
-abbrev pub someOf : ℕ → (ℕ → Bool) → Bool
+unfoldable pub someOf : ℕ → (ℕ → Bool) → Bool
 someOf zero test = false
 someOf (suc n) test = someOf n test || test n

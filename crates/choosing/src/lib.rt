@@ -3,3 +3,4 @@ pub mod choose;
 pub mod due;
 pub mod free;
 pub mod spare;
+pub mod wake;

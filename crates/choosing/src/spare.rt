@@ -1,9 +1,10 @@
 ghost use Prim.Native.Nat.{ℕ, _<_};
+ghost use lib.Dec.{eqb};
 ghost use lib.ListN.{getD};
-ghost use mathlib.Core.Bool.{false, cond};
+ghost use mathlib.Core.Bool.{false, cond, _&&_, _||_};
 ghost use mathlib.Core.Path.{_≡_};
 ghost use Rattle.choosing.specs.Free.{freeIn};
-ghost use Rattle.choosing.specs.Spare.{levelAt, isFreeIn, hasFree, poolLevel, sessionLevel, sessionKey, poolChoice, sessionChoice};
+ghost use Rattle.choosing.specs.Spare.{levelAt, hasFree, poolLevel, sessionKey, poolChoice, sessionChoice};
 ghost use Rattle.std.specs.declared.option.Option.the-variants.{Some, None};
 use account::row::Account;
 use order::key::Key;
@@ -42,6 +43,43 @@ fn pool_key<R: SharingRule>(
     } else {
         None
     }
+}
+
+// Notes that a pool, by its number, has a free session.
+fn note(has_free: &mut [bool; 16], number: u8, free: bool)
+    ensures { λ _. ⌜ ((p : ℕ) → p < 16 → getD (now («has_free» .exit)) p false ≡ (getD (now («has_free» .entry)) p false || (free && eqb number p))) ⌝ }
+{
+    if free && number < 16 {
+        has_free[number as usize] = true;
+    }
+}
+
+// Which pools have a free session, by one pass over the sessions.
+fn pools_with_free(tables: &Tables, free: &[bool; 64]) -> [bool; 16]
+    ensures { λ r. ⌜ ((p : ℕ) → p < 16 → getD r p false ≡ hasFree (now (tables .entry)) (freeIn (now (free .entry))) p) ⌝ }
+{
+    let mut has_free = [false; 16];
+    for place in 0..64 {
+        note(&mut has_free, tables.sessions[place].pool, free[place]);
+    }
+    has_free
+}
+
+// The number of the pool of lowest level that has a free session.
+pub fn pool_choice<R: SharingRule>(
+    rule: &R,
+    tables: &Tables,
+    free: &[bool; 64],
+    present: Instant,
+) -> Option<usize>
+    ensures { λ r. ⌜ r ≡ poolChoice (level (now (rule .entry))) (now (tables .entry)) (freeIn (now (free .entry))) (present .micros) ⌝ }
+{
+    let has_free = pools_with_free(tables, free);
+    let mut keys = [None; 16];
+    for number in 0..16 {
+        keys[number] = pool_key(rule, tables, has_free[number], present, number);
+    }
+    least_candidate(&keys)
 }
 
 // The level of a free session of a pool, with its name.

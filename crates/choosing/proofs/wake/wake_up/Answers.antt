@@ -1,0 +1,11 @@
+use mathlib.Core.Path.{ap, _∙_}
+use native.Mathlib.Omega.{arith}
+use Rattle.choosing.proofs.Filling.{filled-more, filled-all}
+use Rattle.choosing.specs.Wake.{earliest}
+use Rattle.choosing.proofs.wake.wake_up.Needs as need
+
+pub loop-place-again : need.loop-place-again
+loop-place-again c = filled-more _ _ _ (c .loop-place .times) (c .loop-place .place) (c .loop-place .inv) (omega arith) (c .wake-key .result) (c .wake-key .ensures)
+
+pub returns : need.returns
+returns c = c .least-key .ensures ∙ ap earliest (filled-all _ _ _ (c .loop-place .times) (c .loop-place .place) (c .loop-place .inv) (omega arith))
