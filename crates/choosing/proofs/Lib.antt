@@ -1,3 +1,6 @@
 pub mod Filling
 pub mod Agreeing
 pub mod Keyed
+pub mod Orders
+pub mod Placing
+pub mod Rightly

@@ -4,3 +4,4 @@ pub mod Due
 pub mod Spare
 pub mod Chosen
 pub mod Wake
+pub mod Right

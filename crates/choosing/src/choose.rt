@@ -1,6 +1,7 @@
 ghost use mathlib.Core.Path.{_≡_};
 ghost use Rattle.choosing.specs.Chosen.{levelChoice, chosenOf, chosen};
 ghost use Rattle.choosing.specs.Free.{freeIn, runAt};
+ghost use Rattle.choosing.specs.Right.{RightChoice, InTable};
 use super::due::due_choice;
 use super::free::free_places;
 use super::spare::pool_choice;
@@ -57,7 +58,9 @@ pub fn choose<R: SharingRule>(
     heads: &[Option<Head>; 64],
     present: Instant,
 ) -> Option<Choice>
-    ensures { λ r. ⌜ r ≡ chosen (level (now (rule .entry))) (now (tables .entry)) (runAt (now (heads .entry))) (present .micros) ⌝ }
+    ensures is { λ r. ⌜ r ≡ chosen (level (now (rule .entry))) (now (tables .entry)) (runAt (now (heads .entry))) (present .micros) ⌝ }
+    ensures right { λ r. ⌜ RightChoice (level (now (rule .entry))) (record { tables = now (tables .entry); heads = runAt (now (heads .entry)); micros = present .micros }) r ⌝ }
+    ensures within { λ r. ⌜ InTable r ⌝ }
 {
     let free = free_places(tables, heads, present);
     choose_of(rule, tables, &free, present)
