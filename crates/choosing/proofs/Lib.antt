@@ -4,3 +4,5 @@ pub mod Keyed
 pub mod Orders
 pub mod Placing
 pub mod Rightly
+pub mod Passing
+pub mod Waking

@@ -24,7 +24,7 @@ ranks-then f g o p = search needs
 ranks-seen : {X Y : Type 0} (f : Y → Y → Bool) (see : X → Y) → Ranks f → Ranks (λ x y. f (see x) (see y))
 ranks-seen f see o = record { one-way = λ x y. o .one-way (see x) (see y); chain = λ x y z. o .chain (see x) (see y) (see z) }
 
-ranks-number : Ranks ltb
+pub ranks-number : Ranks ltb
 ranks-number = ranks-by-number (λ n. n)
 
 ranks-mark : Ranks markBefore

@@ -6,6 +6,7 @@ use mathlib.Core.Path.{_≡_, refl, sym, ap, subst, _∙_}
 use native.Mathlib.Omega.{arith}
 use lib.Dec.{ltb, eqb}
 use Rattle.choosing.proofs.Orders.{ranks-marks, ranks-level, then-parts, not-above}
+use Rattle.choosing.proofs.Passing.{never, passed, given}
 use Rattle.choosing.proofs.Placing.{Goes, Placed, least-placed}
 use Rattle.choosing.specs.Chosen.{inPool, levelChoice, markOrLevel, chosenOf, chosen}
 use Rattle.choosing.specs.Due.{ownMark, effectiveMark, dueKey, dueChoice}
@@ -25,17 +26,6 @@ use Rattle.std.proofs.shelf.Tests.{cases-bool, cases-eq, both-ways, and-parts, 
 use Rattle.std.specs.declared.option.Option.{Option}
 use Rattle.std.specs.declared.option.Option.the-variants.{Some, None}
 use Rattle.usage.specs.declared.ServiceRecord.{ServiceRecord}
-
-never : {X Y : Type 0} (x : X) → None ≡ Some x → Y
-never x e = absurd (let z : _≡_ {A = ℕ} 0 1 = cc in omega arith)
-
--- what a key that is there says, and when it is there
-passed : {X : Type 0} (b : Bool) (x y : X) → cond b (Some x) None ≡ Some y → (b ≡ true) × (x ≡ y)
-passed true x y e = (refl, cc)
-passed false x y e = never y e
-
-given : {X : Type 0} (b : Bool) (x : X) → b ≡ true → cond b (Some x) None ≡ Some x
-given b x e = ap (λ t. cond t (Some x) None) e
 
 -- one of the first n places passes
 some-at : (n : ℕ) (test : ℕ → Bool) → someOf n test ≡ true → (k : ℕ) × (k < n) × (test k ≡ true)

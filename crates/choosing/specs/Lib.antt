@@ -5,3 +5,4 @@ pub mod Spare
 pub mod Chosen
 pub mod Wake
 pub mod Right
+pub mod Woken

@@ -2,6 +2,7 @@ ghost use Prim.Native.Nat.{_<_};
 ghost use mathlib.Core.Path.{_≡_};
 ghost use Rattle.choosing.specs.Free.{runAt};
 ghost use Rattle.choosing.specs.Wake.{releaseOf, poolRelease, laterOf, earlierOf, after, releaseInstant, wakeKey, earliest, wakeAt};
+ghost use Rattle.choosing.specs.Woken.{RightWake};
 use super::due::effective_mark;
 use super::free::usable;
 use account::row::Account;
@@ -105,7 +106,8 @@ fn least_key(times: &[Option<u64>]) -> Option<u64>
 
 // The earliest release or effective due instant after the present instant, over the sessions with a usable head run.
 pub fn wake_up(tables: &Tables, heads: &[Option<Head>; 64], present: Instant) -> Option<u64>
-    ensures { λ r. ⌜ r ≡ wakeAt (now (tables .entry)) (runAt (now (heads .entry))) (present .micros) ⌝ }
+    ensures is { λ r. ⌜ r ≡ wakeAt (now (tables .entry)) (runAt (now (heads .entry))) (present .micros) ⌝ }
+    ensures right { λ r. ⌜ RightWake (record { tables = now (tables .entry); heads = runAt (now (heads .entry)); micros = present .micros }) r ⌝ }
 {
     let mut times = [None; 64];
     for place in 0..64 {
