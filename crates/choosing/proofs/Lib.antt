@@ -6,3 +6,4 @@ pub mod Placing
 pub mod Rightly
 pub mod Passing
 pub mod Waking
+pub mod Lawful

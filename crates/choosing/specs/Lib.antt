@@ -6,3 +6,4 @@ pub mod Chosen
 pub mod Wake
 pub mod Right
 pub mod Woken
+pub mod Laws

@@ -2,5 +2,6 @@
 pub mod choose;
 pub mod due;
 pub mod free;
+pub mod laws;
 pub mod spare;
 pub mod wake;
