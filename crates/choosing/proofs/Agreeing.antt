@@ -1,7 +1,7 @@
 -- The choice asks only which of the 64 places are free.
 use Prim.Native.Nat.{ℕ, zero, suc, _+_, _<_}
 use mathlib.Core.Bool.{Bool, cond, _&&_, _||_}
-use mathlib.Core.Path.{_≡_, refl, ap, _∙_}
+use mathlib.Core.Path.{_≡_, refl, ap, subst, _∙_}
 use native.Mathlib.Numerals.{add-one}
 use native.Mathlib.Omega.{arith}
 use lib.Dec.{eqb}
@@ -10,6 +10,7 @@ use Rattle.choosing.specs.Chosen.{inPool, levelChoice, markOrLevel, chosenOf}
 use Rattle.choosing.specs.Due.{ownMark, effectiveMark, hasCome, dueKey, dueChoice}
 use Rattle.choosing.specs.Picks.{someOf}
 use Rattle.choosing.specs.Spare.{isFreeIn, hasFree, poolLevel, sessionLevel, poolKey, sessionKey, poolChoice, sessionChoice}
+use Rattle.choosing.specs.declared.choose.Choice.{Choice}
 use Rattle.order.specs.Keys.{markBefore, levelBefore}
 use Rattle.order.specs.Order.{thenBy}
 use Rattle.service.specs.Rows.{session}
@@ -49,3 +50,10 @@ module _ (level : ServiceRecord → ℕ) (t : Tables) (f g : ℕ → Bool) (e : 
   same-chosen =
       ap (λ o. markOrLevel o (levelChoice level t f micros)) same-due
       ∙ ap (markOrLevel (dueChoice t g micros)) (same-in-pool (poolChoice level t f micros) ∙ ap (inPool (sessionChoice level t g micros)) same-pool)
+
+  pub chosen-as : (r : Option Choice) → r ≡ chosenOf level t f micros → r ≡ chosenOf level t g micros
+  chosen-as r h = subst (λ (c : Option Choice). r ≡ c) same-chosen h
+
+-- a key that is there by one test is there by an equal one
+pub key-as : {X : Type 0} (x : X) (b c : Bool) (r : Option X) → r ≡ cond b (Some x) None → b ≡ c → r ≡ cond c (Some x) None
+key-as x b c r h e = subst (λ d. r ≡ cond d (Some x) None) e h
