@@ -2,26 +2,25 @@
 use Prim.Native.Nat.{ℕ, _+_, _-_, _<_, _≤_, max}
 use mathlib.Core.Bool.{Bool, true, false, cond, _&&_}
 use mathlib.Core.Logic.{inl, inr, ⊎-elim}
-use mathlib.Core.Path.{_≡_, refl, sym, ap, subst, _∙_}
+use mathlib.Core.Path.{_≡_, refl, sym, subst}
 use native.Mathlib.Omega.{arith}
 use lib.Dec.{leb, ltb}
 use Rattle.account.specs.Accounts.{isSound, freeAt, releasedFrom}
 use Rattle.account.specs.declared.row.Account.{Account}
 use Rattle.bucket.proofs.Pairs.{settled-twice}
 use Rattle.bucket.proofs.Waiting.{wait-from}
-use Rattle.bucket.specs.Buckets.{capacity, isPair, maySend, runCost, settledLimit, settledUnits}
-use Rattle.bucket.specs.Due.{HoldsFrom, releaseAt, waitFor}
-use Rattle.choosing.proofs.Passing.{never}
+use Rattle.bucket.specs.Buckets.{isPair, maySend, runCost, settledLimit, settledUnits}
+use Rattle.bucket.specs.Due.{releaseAt}
 use Rattle.choosing.proofs.Waking.{wakes-right}
 use Rattle.choosing.specs.Due.{effectiveMark, hasCome}
 use Rattle.choosing.specs.Free.{hasHead, letsGo, poolLetsGo, isFreeToGo}
 use Rattle.choosing.specs.Quiet.{Before, Settled, SameAt, QuietUntil}
 use Rattle.choosing.specs.Right.{Moment}
-use Rattle.choosing.specs.Wake.{releaseOf, poolRelease, laterOf, releaseInstant, wakeAt}
-use Rattle.choosing.specs.Woken.{Awaits, Earliest, RightWake}
+use Rattle.choosing.specs.Wake.{laterOf, releaseInstant, wakeAt}
+use Rattle.choosing.specs.Woken.{Awaits, RightWake}
 use Rattle.service.specs.Rows.{session, pool}
 use Rattle.service.specs.declared.rows.Tables.{Tables}
-use Rattle.std.proofs.shelf.Tests.{both-ways, and-parts, and-from, cases-lt, leb-true, le-leb, lt-ltb, ltb-true}
+use Rattle.std.proofs.shelf.Tests.{both-ways, and-parts, and-from, cases-lt, leb-true, le-leb}
 use Rattle.std.proofs.shelf.Ways.{tells}
 use Rattle.std.specs.declared.option.Option.{Option}
 use Rattle.std.specs.declared.option.Option.the-variants.{Some, None}

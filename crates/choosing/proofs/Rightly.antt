@@ -1,6 +1,6 @@
 -- The choice of the definition is right.
 use Prim.Native.Nat.{ℕ, zero, suc, _<_}
-use mathlib.Core.Bool.{Bool, true, false, cond, _&&_, _||_}
+use mathlib.Core.Bool.{Bool, true, false, _&&_}
 use mathlib.Core.Logic.{⊎-elim}
 use mathlib.Core.Path.{_≡_, refl, sym, ap, subst, _∙_}
 use native.Mathlib.Omega.{arith}
@@ -9,18 +9,17 @@ use Rattle.account.specs.Accounts.{isSound, freeAt}
 use Rattle.choosing.proofs.Orders.{ranks-marks, ranks-level, then-parts, not-above}
 use Rattle.choosing.proofs.Passing.{never, passed, given}
 use Rattle.choosing.proofs.Placing.{Goes, Placed, least-placed}
-use Rattle.choosing.specs.Chosen.{inPool, levelChoice, markOrLevel, chosenOf, chosen}
+use Rattle.choosing.specs.Chosen.{inPool, levelChoice, markOrLevel, chosen}
 use Rattle.choosing.specs.Due.{ownMark, effectiveMark, dueKey, dueChoice}
 use Rattle.choosing.specs.Free.{letsGo, poolLetsGo, hasHead, isFreeToGo}
 use Rattle.choosing.specs.Picks.{someOf}
-use Rattle.choosing.specs.Right.{Moment, Free, comes, Due, ByMark, ByLevel, NotAbove, RightChoice, InTable, CanSend, Sendable}
+use Rattle.choosing.specs.Right.{Moment, Free, comes, Due, ByMark, ByLevel, RightChoice, InTable, CanSend, Sendable}
 use Rattle.choosing.specs.declared.choose.Choice.{Choice}
 use Rattle.std.specs.Orderings.{When}
 use Rattle.choosing.specs.Spare.{isFreeIn, hasFree, poolLevel, sessionLevel, poolKey, sessionKey, poolChoice, sessionChoice}
 use Rattle.order.specs.Keys.{markBefore, levelBefore}
 use Rattle.order.specs.Order.{thenBy}
 use Rattle.order.specs.declared.keys.DueMark.{DueMark}
-use Rattle.order.specs.declared.keys.Level.{Level}
 use Rattle.service.specs.Rows.{session, pool}
 use Rattle.service.specs.declared.rows.Tables.{Tables}
 use Rattle.std.proofs.shelf.Tests.{cases-bool, cases-eq, both-ways, and-parts, and-from, or-cases, or-left, or-right, eq-eqb, eqb-true, ltb-true}
