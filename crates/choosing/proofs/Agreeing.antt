@@ -9,7 +9,7 @@ use Rattle.choosing.proofs.Filling.{same-least}
 use Rattle.choosing.specs.Chosen.{inPool, levelChoice, markOrLevel, chosenOf}
 use Rattle.choosing.specs.Due.{ownMark, effectiveMark, hasCome, dueKey, dueChoice}
 use Rattle.choosing.specs.Picks.{someOf}
-use Rattle.choosing.specs.Spare.{isFreeIn, hasFree, poolLevel, sessionLevel, poolKey, sessionKey, poolChoice, sessionChoice}
+use Rattle.choosing.specs.Spare.{isFreeIn, poolLevel, sessionLevel, poolKey, sessionKey, poolChoice, sessionChoice}
 use Rattle.choosing.specs.declared.choose.Choice.{Choice}
 use Rattle.order.specs.Keys.{markBefore, levelBefore}
 use Rattle.order.specs.Order.{thenBy}

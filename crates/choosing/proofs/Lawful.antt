@@ -1,6 +1,6 @@
 -- The laws of choices and wake-ups.
 use borrow.Author.Needs.{needs}
-use Prim.Native.Nat.{ℕ, _<_, _≤_}
+use Prim.Native.Nat.{ℕ}
 use mathlib.Core.Bool.{Bool, true, false, cond, _&&_}
 use mathlib.Core.Path.{_≡_, refl, sym, ap}
 use native.Mathlib.Omega.{arith}
@@ -22,7 +22,6 @@ use Rattle.order.specs.declared.keys.Level.{Level}
 use Rattle.service.specs.Rows.{session}
 use Rattle.service.specs.declared.rows.Tables.{Tables}
 use Rattle.std.proofs.shelf.Tests.{both-ways}
-use Rattle.std.proofs.shelf.Ways.{tells}
 use Rattle.std.specs.Options.{isSome}
 use Rattle.std.specs.Orderings.{When}
 use Rattle.std.specs.declared.option.Option.{Option}

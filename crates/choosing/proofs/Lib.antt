@@ -7,3 +7,4 @@ pub mod Rightly
 pub mod Passing
 pub mod Waking
 pub mod Lawful
+pub mod Quietly

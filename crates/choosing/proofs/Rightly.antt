@@ -1,25 +1,25 @@
 -- The choice of the definition is right.
 use Prim.Native.Nat.{ℕ, zero, suc, _<_}
-use mathlib.Core.Bool.{Bool, true, false, cond, _&&_, _||_}
+use mathlib.Core.Bool.{Bool, true, false, _&&_}
 use mathlib.Core.Logic.{⊎-elim}
 use mathlib.Core.Path.{_≡_, refl, sym, ap, subst, _∙_}
 use native.Mathlib.Omega.{arith}
 use lib.Dec.{ltb, eqb}
+use Rattle.account.specs.Accounts.{isSound, freeAt}
 use Rattle.choosing.proofs.Orders.{ranks-marks, ranks-level, then-parts, not-above}
 use Rattle.choosing.proofs.Passing.{never, passed, given}
 use Rattle.choosing.proofs.Placing.{Goes, Placed, least-placed}
-use Rattle.choosing.specs.Chosen.{inPool, levelChoice, markOrLevel, chosenOf, chosen}
+use Rattle.choosing.specs.Chosen.{inPool, levelChoice, markOrLevel, chosen}
 use Rattle.choosing.specs.Due.{ownMark, effectiveMark, dueKey, dueChoice}
 use Rattle.choosing.specs.Free.{letsGo, poolLetsGo, hasHead, isFreeToGo}
 use Rattle.choosing.specs.Picks.{someOf}
-use Rattle.choosing.specs.Right.{Moment, Free, comes, Due, ByMark, ByLevel, NotAbove, RightChoice, InTable}
+use Rattle.choosing.specs.Right.{Moment, Free, comes, Due, ByMark, ByLevel, RightChoice, InTable, CanSend, Sendable}
 use Rattle.choosing.specs.declared.choose.Choice.{Choice}
 use Rattle.std.specs.Orderings.{When}
 use Rattle.choosing.specs.Spare.{isFreeIn, hasFree, poolLevel, sessionLevel, poolKey, sessionKey, poolChoice, sessionChoice}
 use Rattle.order.specs.Keys.{markBefore, levelBefore}
 use Rattle.order.specs.Order.{thenBy}
 use Rattle.order.specs.declared.keys.DueMark.{DueMark}
-use Rattle.order.specs.declared.keys.Level.{Level}
 use Rattle.service.specs.Rows.{session, pool}
 use Rattle.service.specs.declared.rows.Tables.{Tables}
 use Rattle.std.proofs.shelf.Tests.{cases-bool, cases-eq, both-ways, and-parts, and-from, or-cases, or-left, or-right, eq-eqb, eqb-true, ltb-true}
@@ -135,11 +135,29 @@ module _ (level : ServiceRecord → ℕ) (m : Moment) where
   pub is-right : (r : Option Choice) → r ≡ chosen level t (m .heads) (m .micros) → RightChoice level m r
   is-right r e = subst (RightChoice level m) (sym e) rightly
 
-  inside-when : (b : Bool) (k : ℕ) → When b (ByMark m k) (ByLevel level m k) → k < 64
-  inside-when true k h = h .due .free .inside
-  inside-when false k h = h .free .inside
+  is-free : (b : Bool) (k : ℕ) → When b (ByMark m k) (ByLevel level m k) → Free m k
+  is-free true k h = h .due .free
+  is-free false k h = h .free
 
   -- and its place is one of the table's
   pub in-table : (r : Option Choice) → RightChoice level m r → InTable r
   in-table None h = tt
-  in-table (Some c) h = inside-when (c .due) (c .place) h
+  in-table (Some c) h = is-free (c .due) (c .place) h .inside
+
+  can-send : (k : ℕ) → Free m k → CanSend t (m .heads) k
+  can-send k h =
+      let a = and-parts (hasHead t (m .heads) k) (letsGo (m .micros) (session t k .account) && poolLetsGo t (m .micros) (poolOf k)) (h .goes) in
+      let b = and-parts (letsGo (m .micros) (session t k .account)) (poolLetsGo t (m .micros) (poolOf k)) (a .1) in
+      let d = and-parts (ltb (poolOf k) 16) (letsGo (m .micros) (pool t (poolOf k) .account)) (b .1) in
+      record {
+        inside = h .inside;
+        head = a .0;
+        of-pool = pool-in k h;
+        own-sound = and-parts (isSound (session t k .account)) (freeAt (m .micros) (session t k .account)) (b .0) .0;
+        pool-sound = and-parts (isSound (pool t (poolOf k) .account)) (freeAt (m .micros) (pool t (poolOf k) .account)) (d .1) .0;
+      }
+
+  -- and a run can be sent from it
+  pub sendable : (r : Option Choice) → RightChoice level m r → Sendable t (m .heads) r
+  sendable None h = tt
+  sendable (Some c) h = can-send (c .place) (is-free (c .due) (c .place) h)

@@ -1,21 +1,20 @@
 -- The wake-up of the definition is right.
 use Prim.Native.Nat.{ℕ, _<_, _≤_, min}
-use mathlib.Core.Bool.{Bool, cond}
+use mathlib.Core.Bool.{cond}
 use mathlib.Core.List.{List, map}
 use mathlib.Core.Logic.{_⊎_, inl, inr, ⊎-elim, ⊎-map}
 use mathlib.Core.Path.{_≡_, refl, sym, ap, subst, _∙_}
 use native.Mathlib.Omega.{arith}
 use lib.Dec.{ltb}
-use lib.ListN.{getD}
 use Rattle.choosing.proofs.Keyed.{keyAt, keyed}
 use Rattle.choosing.proofs.Orders.{ranks-number}
 use Rattle.choosing.proofs.Passing.{never, there, one, passed, given}
-use Rattle.choosing.proofs.Placing.{Goes, Placed, least-placed}
+use Rattle.choosing.proofs.Placing.{Placed, least-placed}
 use Rattle.choosing.specs.Due.{effectiveMark}
 use Rattle.choosing.specs.Free.{hasHead}
 use Rattle.choosing.specs.Right.{Moment}
 use Rattle.choosing.specs.Wake.{earlierOf, after, releaseInstant, wakeKey, wakeAt}
-use Rattle.choosing.specs.Woken.{Awaits, Earliest, RightWake}
+use Rattle.choosing.specs.Woken.{Awaits, RightWake}
 use Rattle.order.specs.Least.{leastOf, placeOf, keyOf}
 use Rattle.std.proofs.shelf.Counted.{getD-map-counting}
 use Rattle.std.proofs.shelf.Tests.{cases-lt, lt-ltb, ltb-true, ltb-false}

@@ -7,3 +7,4 @@ pub mod Wake
 pub mod Right
 pub mod Woken
 pub mod Laws
+pub mod Quiet

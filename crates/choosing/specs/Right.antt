@@ -2,14 +2,15 @@
 use Prim.Native.Nat.{ℕ, _<_, _≤_}
 use mathlib.Core.Bool.{Bool, true, false}
 use mathlib.Core.Path.{_≡_}
+use Rattle.account.specs.Accounts.{isSound}
 use Rattle.choosing.specs.Due.{ownMark, effectiveMark, hasCome}
-use Rattle.choosing.specs.Free.{isFreeToGo}
+use Rattle.choosing.specs.Free.{hasHead, isFreeToGo}
 use Rattle.choosing.specs.Spare.{poolLevel, sessionLevel}
 use Rattle.choosing.specs.declared.choose.Choice.{Choice}
 use Rattle.heads.specs.Heads.{HeadRun}
 use Rattle.order.specs.Keys.{markBefore}
 use Rattle.order.specs.declared.keys.Level.{Level}
-use Rattle.service.specs.Rows.{session}
+use Rattle.service.specs.Rows.{session, pool}
 use Rattle.service.specs.declared.rows.Tables.{Tables}
 use Rattle.std.specs.Orderings.{When}
 use Rattle.std.specs.declared.option.Option.{Option}
@@ -63,3 +64,15 @@ RightChoice level m (Some c) = When (c .due) (ByMark m (c .place)) (ByLevel leve
 abbrev pub InTable : Option Choice → Type 0
 InTable None = Unit {0}
 InTable (Some c) = c .place < 64
+
+-- all that a send from the place asks for: a usable head run, one of the 16 pools, and two sound accounts
+pub record CanSend (t : Tables) (heads : ℕ → Option HeadRun) (k : ℕ) : Type 0 where
+  pub inside : k < 64
+  pub head : hasHead t heads k ≡ true
+  pub of-pool : session t k .pool < 16
+  pub own-sound : isSound (session t k .account) ≡ true
+  pub pool-sound : isSound (pool t (session t k .pool) .account) ≡ true
+
+abbrev pub Sendable : Tables → (ℕ → Option HeadRun) → Option Choice → Type 0
+Sendable t heads None = Unit {0}
+Sendable t heads (Some c) = CanSend t heads (c .place)

@@ -1,6 +1,6 @@
 -- When to look again.
 use Prim.Native.Nat.{ℕ, max, min}
-use mathlib.Core.Bool.{Bool, cond}
+use mathlib.Core.Bool.{cond}
 use mathlib.Core.List.{List, map}
 use lib.Dec.{ltb}
 use Rattle.account.specs.Accounts.{isSound, releasedFrom}

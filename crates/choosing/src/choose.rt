@@ -1,7 +1,7 @@
 ghost use mathlib.Core.Path.{_≡_};
 ghost use Rattle.choosing.specs.Chosen.{levelChoice, chosenOf, chosen};
 ghost use Rattle.choosing.specs.Free.{freeIn, runAt};
-ghost use Rattle.choosing.specs.Right.{RightChoice, InTable};
+ghost use Rattle.choosing.specs.Right.{RightChoice, InTable, Sendable};
 use super::due::due_choice;
 use super::free::free_places;
 use super::spare::pool_choice;
@@ -61,6 +61,7 @@ pub fn choose<R: SharingRule>(
     ensures is { λ r. ⌜ r ≡ chosen (level (now (rule .entry))) (now (tables .entry)) (runAt (now (heads .entry))) (present .micros) ⌝ }
     ensures right { λ r. ⌜ RightChoice (level (now (rule .entry))) (record { tables = now (tables .entry); heads = runAt (now (heads .entry)); micros = present .micros }) r ⌝ }
     ensures within { λ r. ⌜ InTable r ⌝ }
+    ensures sendable { λ r. ⌜ Sendable (now (tables .entry)) (runAt (now (heads .entry))) r ⌝ }
 {
     let free = free_places(tables, heads, present);
     choose_of(rule, tables, &free, present)

@@ -2,7 +2,6 @@ ghost use Prim.Native.Nat.{_<_};
 ghost use mathlib.Core.Path.{_≡_};
 ghost use Rattle.choosing.specs.Due.{poolMark, earlierMark, effectiveMark, hasCome, dueKey, dueChoice};
 ghost use Rattle.choosing.specs.Free.{freeIn};
-use heads::head::Head;
 use order::key::Key;
 use order::key::PairKey;
 use order::keys::DueMark;

@@ -1,5 +1,5 @@
 use Rattle.choosing.proofs.Agreeing.{chosen-as}
-use Rattle.choosing.proofs.Rightly.{is-right, in-table}
+use Rattle.choosing.proofs.Rightly.{is-right, in-table, sendable}
 use Rattle.choosing.specs.Free.{runAt}
 use Rattle.choosing.specs.Right.{Moment}
 use Rattle.choosing.proofs.choose.choose.Needs as need
@@ -10,4 +10,4 @@ returns g c =
     let m : Moment = record { tables = c .args .tables .now; heads = runAt (c .args .heads .now); micros = c .args .present .micros } in
     let is = chosen-as level (c .args .tables .now) _ _ (c .free-places-free .ensures) (c .args .present .micros) _ (c .choose-of .ensures) in
     let right = is-right level m _ is in
-    record { is = is; right = right; within = in-table level m _ right }
+    record { is = is; right = right; within = in-table level m _ right; sendable = sendable level m _ right }
