@@ -7,6 +7,7 @@ ghost use Rattle.service.specs.Sound.{Sound};
 use crate::rows::Tables;
 
 pub mod calls;
+pub mod lines;
 
 // A service: its tables and its sharing rule.
 #[derive(Drop)]
