@@ -26,6 +26,7 @@ fn limit_in(bytes: &[u8]) -> Option<u32>
     }
 }
 
+// A begin: throughput, cap, and the rest the rule's name, which must be that of a rule.
 fn begin(v: &[u8]) -> Result<Event, StreamWhy>
     requires { ⌜ 5 ≤ length (now v) ⌝ }
     ensures { λ r. ⌜ r ≡ saidBy Tag.Begin (now (v .entry)) ⌝ }
@@ -41,6 +42,7 @@ fn begin(v: &[u8]) -> Result<Event, StreamWhy>
     }
 }
 
+// A pool: instant, reserve, burst, and the limit or nothing.
 fn pool(v: &[u8]) -> Event
     requires { ⌜ lengthLawful Tag.Pool (length (now v)) ≡ true ⌝ }
     ensures { λ r. ⌜ Ok r ≡ saidBy Tag.Pool (now (v .entry)) ⌝ }
@@ -54,6 +56,7 @@ fn pool(v: &[u8]) -> Event
     }
 }
 
+// An opening: instant, pool, reserve, burst, and the limit or nothing.
 fn open(v: &[u8]) -> Event
     requires { ⌜ lengthLawful Tag.Open (length (now v)) ≡ true ⌝ }
     ensures { λ r. ⌜ Ok r ≡ saidBy Tag.Open (now (v .entry)) ⌝ }
@@ -68,6 +71,7 @@ fn open(v: &[u8]) -> Event
     }
 }
 
+// An arrival: session, direction, address and length.
 fn arrival(v: &[u8]) -> Event
     requires { ⌜ lengthLawful Tag.Arrival (length (now v)) ≡ true ⌝ }
     ensures { λ r. ⌜ Ok r ≡ saidBy Tag.Arrival (now (v .entry)) ⌝ }

@@ -67,6 +67,7 @@ fn write_limit(out: &mut Vec<u8>, limit: Option<u32>) -> Result<(), AllocError>
     }
 }
 
+// The value of a begin.
 fn begin(heap: Global, throughput: u32, cap: u8, rule: Rule) -> Result<Vec<u8>, AllocError>
     ensures { λ r. ⌜ made r (λ v. vec-items v ≡ valueIn (Event.Begin throughput «cap» rule)) ⌝ }
 {
@@ -86,6 +87,7 @@ fn rates(heap: Global, reserve: u32, burst: u8, limit: Option<u32>) -> Result<Ve
     Ok(value)
 }
 
+// The value of a pool.
 fn pool(
     heap: Global,
     instant: u64,
@@ -101,6 +103,7 @@ fn pool(
     Ok(value)
 }
 
+// The value of an opening.
 fn open(
     heap: Global,
     instant: u64,
@@ -118,6 +121,7 @@ fn open(
     Ok(value)
 }
 
+// The value of an arrival.
 fn arrival(
     heap: Global,
     session: u32,
