@@ -44,7 +44,7 @@ impl State {
         }
     }
 
-    pub(crate) fn is_present(self) -> bool
+    pub fn is_present(self) -> bool
         ensures { λ r. ⌜ r ≡ isPresent self ⌝ }
     {
         match self {
