@@ -1,4 +1,6 @@
 // Examples of the base: values, the least, the line, devices and requests.
+#![tactic(auto)]
+
 #[cfg(test)]
 mod devices;
 #[cfg(test)]

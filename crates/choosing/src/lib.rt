@@ -1,4 +1,6 @@
 // Choosing: which session sends next, and when to look again.
+#![tactic(auto)]
+
 pub mod choose;
 pub mod due;
 pub mod free;

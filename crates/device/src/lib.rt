@@ -1,4 +1,6 @@
 // Devices: what every device means, and two of them.
+#![tactic(auto)]
+
 mod bay;
 pub mod device;
 pub mod elevator;

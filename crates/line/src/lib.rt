@@ -1,3 +1,5 @@
+#![tactic(auto)]
+
 ghost use Rattle.std.specs.Prelude.{◌≡◌, ℕ, ◌+◌, ◌<◌, ◌≤◌, min, false, length, ◌==◌, slice_index_or};
 ghost use Rattle.std.specs.List.{remove};
 ghost use Rattle.line.specs.Line.{records_of, unflagged, Appended, Closed, Removed, AppendedAt, RemovedAt, without};

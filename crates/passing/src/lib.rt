@@ -1,4 +1,6 @@
 // The passing law over whole runs.
+#![tactic(auto)]
+
 ghost use Rattle.passing.specs.Example.{BoundsReached};
 ghost use Rattle.passing.specs.Law.{Passing};
 

@@ -1,4 +1,6 @@
 // What the program sweep does: reading requests, serving them through a device, and the arm's way.
+#![tactic(auto)]
+
 pub mod request;
 pub mod serve;
 pub mod text;

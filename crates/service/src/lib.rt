@@ -1,4 +1,6 @@
 // The service: its tables of pools and sessions, and every call on them but scheduling.
+#![tactic(auto)]
+
 pub mod fault;
 mod find;
 pub mod laws;

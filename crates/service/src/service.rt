@@ -10,8 +10,8 @@ pub mod lines;
 // A service: its tables and its sharing rule.
 #[derive(Drop)]
 pub struct Service<R> {
-    pub tables: Tables,
-    pub rule: R,
+    tables: Tables,
+    rule: R,
     ghost lawful: { tables.latest ≤ 1099511627775 },
     ghost places: { tables.made ≤ 16 },
     ghost openings: { tables.opened ≤ 4000000000 },

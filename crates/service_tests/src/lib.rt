@@ -1,4 +1,6 @@
 // Examples of the service's calls: every refusal, each beside a later one, and what the calls leave.
+#![tactic(auto)]
+
 #[cfg(test)]
 mod admission;
 #[cfg(test)]

@@ -1,4 +1,6 @@
 // The way in: the events that a stream of bytes spells, exactly, or the fault that ends it.
+#![tactic(auto)]
+
 pub mod checked;
 pub mod decode;
 pub mod event;

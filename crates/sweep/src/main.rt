@@ -1,3 +1,5 @@
+#![tactic(auto)]
+
 use device::elevator::Elevator;
 use device::store::LineStore;
 use seek::serve::serve;

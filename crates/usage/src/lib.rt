@@ -1,4 +1,6 @@
 // Service records: what a session or pool was sent lately, and how much of it when not due.
+#![tactic(auto)]
+
 ghost use Rattle.std.specs.Prelude.{◌≡◌, ℕ, ◌≤◌};
 ghost use Rattle.usage.specs.Usage.{quarter_of, unused, moved_to, one_more, sent_one};
 

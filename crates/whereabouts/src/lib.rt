@@ -1,4 +1,6 @@
 // Where every accepted I/O is, over whole runs.
+#![tactic(auto)]
+
 ghost use Rattle.whereabouts.specs.Example.{ThroughAllPlaces};
 ghost use Rattle.whereabouts.specs.Law.{AlwaysFound, SessionAlwaysFound};
 

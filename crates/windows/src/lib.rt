@@ -1,4 +1,6 @@
 // The window law over whole runs.
+#![tactic(auto)]
+
 ghost use Rattle.windows.specs.Example.{BoundReached};
 ghost use Rattle.windows.specs.Law.{Windows};
 
