@@ -5,7 +5,7 @@ use super::key::Key;
 
 // Of a key met at `place` and the best so far, the place that stays: the new one only if it goes strictly first.
 fn sooner<K: Key>(key: &K, place: usize, best: &K, best_place: usize) -> usize
-    ensures { result ≡ cond (before key.now best.now) place best_place }
+    ensures { result ≡ cond (K.before key.now best.now) place best_place }
 {
     if key.goes_before(best) {
         place
@@ -16,7 +16,7 @@ fn sooner<K: Key>(key: &K, place: usize, best: &K, best_place: usize) -> usize
 
 // The place of the least key, the first in line among equals; none exactly if there are no keys.
 pub fn least<K: Key>(keys: &[K]) -> Option<usize>
-    ensures { Least before keys.now result }
+    ensures { Least K.before keys.now result }
 {
     if keys.len() == 0 {
         return None;
@@ -38,9 +38,9 @@ fn if_candidate<K>(key: &Option<K>, place: usize) -> Option<usize>
 // The place of the least among the entries that are candidates: as a relation, as equal to what the definition picks,
 // and, under any naming by which keys that tie share a name and different candidates have different names, as the only possible choice.
 pub fn least_candidate<K: Key>(keys: &[Option<K>]) -> Option<usize>
-    ensures chosen { LeastCandidate before keys.now result }
-    ensures is { result ≡ place_of (least_of before keys.now) }
-    ensures only { (name : K → ℕ) → TiesShareName before name → DifferentNames name keys.now → OnlyChoice before keys.now result }
+    ensures chosen { LeastCandidate K.before keys.now result }
+    ensures is { result ≡ place_of (least_of K.before keys.now) }
+    ensures only { (name : K → ℕ) → TiesShareName K.before name → DifferentNames name keys.now → OnlyChoice K.before keys.now result }
 {
     match least(keys) {
         Some(i) => if_candidate(&keys[i], i),

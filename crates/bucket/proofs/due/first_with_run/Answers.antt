@@ -8,6 +8,6 @@ pub returns : goal.returns
 returns c =
     let a = c.args in
     let room : run_cost ≤ capacity a.burst = omega arith in
-    let is : a.present.micros + c.wait-for-run.result ≡ a.present.micros + wait_for run_cost a.rate a.units = ap (λ n. a.present.micros + n) c.wait-for-run.ensures in
+    let is : a.present.micros + c.wait_for_run.result ≡ a.present.micros + wait_for run_cost a.rate a.units = ap (λ n. a.present.micros + n) c.wait_for_run.ensures in
     let right = wait_from run_cost a.rate a.burst a.units a.present.micros c.requires.0 room in
     record { is = is; right = subst (HoldsFrom (λ micros. run_cost ≤ settled_units a.rate a.burst a.units micros) a.present.micros) (sym is) right }

@@ -8,6 +8,6 @@ pub returns : goal.returns
 returns g c =
     let level = g.R.SharingRule.level c.args.rule.now in
     let m : Moment = record { tables = c.args.tables.now; heads = run_at c.args.heads.now; micros = c.args.present.micros } in
-    let is = chosen_as level c.args.tables.now _ _ c.free-places-free.ensures c.args.present.micros _ c.choose-of.ensures in
+    let is = chosen_as level c.args.tables.now _ _ c.free_places-free.ensures c.args.present.micros _ c.choose_of.ensures in
     let right = is_right level m _ is in
     record { is = is; right = right; within = in_table level m _ right; sendable = sendable level m _ right }

@@ -13,9 +13,9 @@ loop-number-preserved g c =
     let free = free_in c.args.free.now in
     let micros = c.args.present.micros in
     let i = c.loop-number.number in
-    let has : get_or c.pools-with-free-has-free.result i false ≡ pool_has_free tables free i = c.pools-with-free-has-free.ensures i (omega arith) in
-    let here : c.pool-key.result ≡ pool_key level tables free micros i = key_as (pool_level level tables micros i) (get_or c.pools-with-free-has-free.result i false) (pool_has_free tables free i) c.pool-key.result c.pool-key.ensures has in
-    filled_more 16 (pool_key level tables free micros) None c.loop-number.keys i c.loop-number.invariant (omega arith) c.pool-key.result here
+    let has : get_or c.pools_with_free-has_free.result i false ≡ pool_has_free tables free i = c.pools_with_free-has_free.ensures i (omega arith) in
+    let here : c.pool_key.result ≡ pool_key level tables free micros i = key_as (pool_level level tables micros i) (get_or c.pools_with_free-has_free.result i false) (pool_has_free tables free i) c.pool_key.result c.pool_key.ensures has in
+    filled_more 16 (pool_key level tables free micros) None c.loop-number.keys i c.loop-number.invariant (omega arith) c.pool_key.result here
 
 pub returns : goal.returns
-returns g c = picked level_before _ _ c.loop-number.keys c.loop-number.number c.least-candidate.result c.loop-number.invariant (omega arith) c.least-candidate.ensures.is
+returns g c = picked level_before _ _ c.loop-number.keys c.loop-number.number c.least_candidate.result c.loop-number.invariant (omega arith) c.least_candidate.ensures.is

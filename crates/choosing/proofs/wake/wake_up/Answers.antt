@@ -7,10 +7,10 @@ use Rattle.choosing.specs.Wake.{earliest}
 use Rattle.choosing.proofs.wake.wake_up.Goals as goal
 
 pub loop-place-preserved : goal.loop-place-preserved
-loop-place-preserved c = filled_more _ _ _ c.loop-place.times c.loop-place.place c.loop-place.invariant (omega arith) c.wake-key.result c.wake-key.ensures
+loop-place-preserved c = filled_more _ _ _ c.loop-place.times c.loop-place.place c.loop-place.invariant (omega arith) c.wake_key.result c.wake_key.ensures
 
 pub returns : goal.returns
 returns c =
     let m : Moment = record { tables = c.args.tables.now; heads = run_at c.args.heads.now; micros = c.args.present.micros } in
-    let is = c.least-key.ensures ∙ ap earliest (filled_all _ _ _ c.loop-place.times c.loop-place.place c.loop-place.invariant (omega arith)) in
+    let is = c.least_key.ensures ∙ ap earliest (filled_all _ _ _ c.loop-place.times c.loop-place.place c.loop-place.invariant (omega arith)) in
     record { is = is; right = wakes_right m _ is }

@@ -4,4 +4,4 @@ use Rattle.line.proofs.Front.{Front}
 use Rattle.line.proofs.Line.keep_unflagged.Given as goal
 
 abbrev pub invariant-loop-i : goal.invariant-loop-i
-invariant-loop-i g l = (l.self.len ≡ l.initial.self.len) × (l.self.places.ghost_name ≡ l.initial.self.places.ghost_name) × (l.kept-len ≤ l.i) × Front (unflagged l.out (take l.i l.initial.self.places.now)) l.initial.self.places.now l.self.places.now l.kept-len
+invariant-loop-i g l = (l.self.len ≡ l.initial.self.len) × (l.self.places.ghost_name ≡ l.initial.self.places.ghost_name) × (l.kept_len ≤ l.i) × Front (unflagged l.out (take l.i l.initial.self.places.now)) l.initial.self.places.now l.self.places.now l.kept_len

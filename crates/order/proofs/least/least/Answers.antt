@@ -7,8 +7,8 @@ use Rattle.order.proofs.least.least.Goals as goal
 pub loop-i-init : goal.loop-i-init
 loop-i-init g c = IsFirstBest-none g.met.K.Key.ranks c.args.keys.now
 
-pub offset-bounds-keys-best : goal.offset-bounds-keys-best
-offset-bounds-keys-best g c = omega (arith, c.loop-i.invariant.0)
+pub offset_bounds-keys-best : goal.offset_bounds-keys-best
+offset_bounds-keys-best g c = omega (arith, c.loop-i.invariant.0)
 
 pub bounds-keys-best : goal.bounds-keys-best
 bounds-keys-best g c = omega (arith, c.loop-i.invariant.0)

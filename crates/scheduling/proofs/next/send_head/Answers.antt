@@ -9,10 +9,10 @@ use Rattle.scheduling.proofs.next.send_head.Goals as goal
 pub returns : goal.returns
 returns g c =
     let places = c.args.waiting.now.places.now in
-    let put = put_done c.put.result (g.D.Device.means c.args.device.now) c.run-of-run.result (g.D.Device.means c.put.new.self) _ _ c.requires.room c.put.ensures.meant c.put.ensures.exact in
+    let put = put_done c.put.result (g.D.Device.means c.args.device.now) c.run_of-run.result (g.D.Device.means c.put.new.self) _ _ c.requires.room c.put.ensures.meant c.put.ensures.exact in
     record {
       tables = search rules;
       same = search rules;
-      line = subst (λ used. Closed (without owner_of (session c.args.tables.now c.args.choice.place).name c.args.head.count used) places c.take-first.new.self.places.now c.take-first.new.self.len) (front_of_front places 4096 c.args.waiting.now.len) c.take-first.ensures.held;
-      put = (c.run-of-run.result, c.run-of-run.ensures, put.0, put.1);
+      line = subst (λ used. Closed (without owner_of (session c.args.tables.now c.args.choice.place).name c.args.head.count used) places c.take_first.new.self.places.now c.take_first.new.self.len) (front_of_front places 4096 c.args.waiting.now.len) c.take_first.ensures.held;
+      put = (c.run_of-run.result, c.run_of-run.ensures, put.0, put.1);
     }

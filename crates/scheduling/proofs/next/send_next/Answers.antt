@@ -8,23 +8,23 @@ use Rattle.scheduling.proofs.Going.{none_next, one_next, never_none, usable_read
 use Rattle.scheduling.specs.Sending.{head_at}
 use Rattle.scheduling.proofs.next.send_next.Goals as goal
 
-pub returns-in-default : goal.returns-in-default
-returns-in-default g c =
+pub returns-in_default : goal.returns-in_default
+returns-in_default g c =
     let m : Moment = moment_of c.args.tables.now c.args.waiting.now.places.now c.args.waiting.now.len (g.D.Device.means c.args.device.now) in
     record {
-      sent = (none_next (g.R.SharingRule.level c.args.rule.now) m c.args.heads.now c.requires.found c.args.present.micros c.requires.latest c.in-default.ensures.is, refl, refl);
+      sent = (none_next (g.R.SharingRule.level c.args.rule.now) m c.args.heads.now c.requires.found c.args.present.micros c.requires.latest c.in_default.ensures.is, refl, refl);
       found = c.requires.found;
       same = refl;
       past = (refl, refl);
     }
 
-pub returns-in-default-usable : goal.returns-in-default-usable
-returns-in-default-usable g c =
+pub returns-in_default-usable : goal.returns-in_default-usable
+returns-in_default-usable g c =
     let can = c.in-Some.ensures.sendable in
-    absurd (never_none (session c.args.tables.now c.in-Some.choice.place) c.args.heads.now c.in-Some.choice.place c.index-heads-choice.result can.inside c.told-heads c.in-default-usable.ensures can.head)
+    absurd (never_none (session c.args.tables.now c.in-Some.choice.place) c.args.heads.now c.in-Some.choice.place c.index-heads-choice.result can.inside c.told-heads c.in_default-usable.ensures can.head)
 
-pub send-head-requires : goal.send-head-requires
-send-head-requires g c =
+pub send_head-requires : goal.send_head-requires
+send_head-requires g c =
     let t = c.args.tables.now in
     let p = c.in-Some.choice.place in
     let can = c.in-Some.ensures.sendable in
@@ -47,7 +47,7 @@ returns g c =
     let places = c.args.waiting.now.places.now in
     let len = c.args.waiting.now.len in
     let held = g.D.Device.means c.args.device.now in
-    let held' = g.D.Device.means c.send-head.new.device in
+    let held' = g.D.Device.means c.send_head.new.device in
     let level = g.R.SharingRule.level c.args.rule.now in
     let m : Moment = moment_of t places len held in
     let choice = c.in-Some.choice in
@@ -58,20 +58,20 @@ returns g c =
     let u = usable_is (session t p) (run_at c.args.heads.now p) head read in
     let usable : usable_head (session t p) (head_at m p) ≡ Some head = ap (usable_head (session t p)) (sym (c.requires.found p can.inside)) ∙ read in
     let goes = one_next level m c.args.heads.now c.requires.found c.args.present.micros c.requires.latest choice c.requires.room c.in-Some.ensures.is in
-    let places' = c.send-head.new.waiting.places.now in
-    let len' = c.send-head.new.waiting.len in
-    let line = c.send-head.ensures.line in
-    let put = c.send-head.ensures.put in
-    let t' = c.send-head.new.tables in
+    let places' = c.send_head.new.waiting.places.now in
+    let len' = c.send_head.new.waiting.len in
+    let line = c.send_head.ensures.line in
+    let put = c.send_head.ensures.put in
+    let t' = c.send_head.new.tables in
     record {
       sent = record {
         choice = choice;
         run = put.0;
-        sends = one_send level t places len held held' choice head places' len' line t' c.send-head.ensures.tables goes usable put.0 put.1 put.2;
+        sends = one_send level t places len held held' choice head places' len' line t' c.send_head.ensures.tables goes usable put.0 put.1 put.2;
         due_is = refl;
         exact = put.3;
       };
-      found = heads_then level t places len held held' choice head places' len' line t' c.send-head.ensures.tables c.requires.numbers u.present c.args.heads.now c.head-of.result can.inside c.told-heads c.requires.found (c.head-of.ensures ∙ ap (head_of (session t' p).name) c.used.ensures);
-      same = c.send-head.ensures.same;
+      found = heads_then level t places len held held' choice head places' len' line t' c.send_head.ensures.tables c.requires.numbers u.present c.args.heads.now c.head_of.result can.inside c.told-heads c.requires.found (c.head_of.ensures ∙ ap (head_of (session t' p).name) c.used.ensures);
+      same = c.send_head.ensures.same;
       past = past_after level t places len held held' choice head places' len' line;
     }

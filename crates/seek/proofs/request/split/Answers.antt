@@ -5,8 +5,8 @@ use Rattle.seek.proofs.request.split.Goals as goal
 pub returns-then-text-i : goal.returns-then-text-i
 returns-then-text-i c =
     let e = c.if-text-i.true in
-    let first = c.split-at.ensures in
-    let second = c.split-at-then-text-i.ensures in (
+    let first = c.split_at.ensures in
+    let second = c.split_at-then-text-i.ensures in (
       first.front ∙ found_before _ _ _ c.loop-i-test.true c.loop-i.invariant e,
       second.back ∙ (ap (drop 1) first.back ∙ found_after _ _ _ c.loop-i-test.true c.loop-i.invariant e),
     )

@@ -12,7 +12,7 @@ pub loop-left-preserved : goal.loop-left-preserved
 loop-left-preserved c =
     let left = c.loop-left.left.now in
     let some : length left ≡ 0 → ⊥ = λ e. omega (arith, c.loop-left-test.true) in
-    let added = c.in-ok-add-line.ensures in
+    let added = c.in_ok-add_line.ensures in
     reading_more _ _ _ _ _ _ left _ _ some c.loop-left.invariant c.split.ensures.0 c.split.ensures.1 added.runs added.bad
 
 pub returns : goal.returns

@@ -8,8 +8,8 @@ use Rattle.sharing.proofs.water.weighted.Goals as goal
 product_most : (count age weight : ℕ) → count ≤ 4294967295 → weight ≡ weight_of age → count * weight ≤ 4294967295000000
 product_most count age weight h e = mul-le count weight 4294967295 1000000 h (rw e (weight_most age))
 
-pub overflow-mul-result : goal.overflow-mul-result
-overflow-mul-result c =
+pub overflow_mul-result : goal.overflow_mul-result
+overflow_mul-result c =
     let is = c.weight.ensures ∙ weight_is c.args.age c.requires in
     let most = product_most c.args.count c.args.age c.weight.result (search rules) is in
     search rules

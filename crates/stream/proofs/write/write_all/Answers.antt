@@ -5,7 +5,7 @@ use Rattle.stream.proofs.write.write_all.Goals as goal
 
 pub loop-event-preserved : goal.loop-event-preserved
 loop-event-preserved c =
-    let wrote = c.in-ok-write-event.ensures in
+    let wrote = c.in_ok-write_event.ensures in
     let lt = c.loop-event-test.true in (
       written_more c.args.events.now c.loop-event.event-index _ _ _ _ lt c.loop-event.invariant.0 wrote.bytes,
       All-more NumbersFit c.args.events.now c.loop-event.event-index _ lt c.loop-event.invariant.1 wrote.fits,

@@ -4,8 +4,8 @@ use Rattle.service.specs.Sound.{Numbers}
 use Rattle.service.proofs.Facts.{Ghosts, said, arrival_keeps}
 use Rattle.service.proofs.service.Service.arrival.Goals as goal
 
-pub invariant-of-self : goal.invariant-of-self
-invariant-of-self g c =
+pub invariant_of-self : goal.invariant_of-self
+invariant_of-self g c =
     let s = c.args.self.now in
     let f : Numbers s.tables = record { lawful = s.lawful; places = s.places; openings = s.openings; few = s.few; counts = s.counts; wide = s.wide; deep = s.deep; numbered = s.numbered; sound = s.sound } in
     subst Ghosts (sym c.arrival.ensures.leaves) (said _ (arrival_keeps s.tables f _ c.args.io))

@@ -5,5 +5,5 @@ use Rattle.stream.proofs.reader.reading.field_at.Goals as goal
 
 pub returns : goal.returns
 returns c =
-    let e = c.front.ensures ∙ ap (field_from c.args.offset) c.split-at.ensures.back in
+    let e = c.front.ensures ∙ ap (field_from c.args.offset) c.split_at.ensures.back in
     record { field = e; value = in_place c.args.offset c.args.input.now c.front.result c.requires e }

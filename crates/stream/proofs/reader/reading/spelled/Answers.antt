@@ -6,6 +6,6 @@ pub returns : goal.returns
 unfolding spelled_by
 returns c = search rules
 
-pub returns-in-err-event : goal.returns-in-err-event
+pub returns-in_err-event : goal.returns-in_err-event
 unfolding spelled_by
-returns-in-err-event c = search rules
+returns-in_err-event c = search rules
