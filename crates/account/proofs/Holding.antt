@@ -1,10 +1,10 @@
 -- Rows stay sound, and settling in between makes no difference.
-use Rattle.std.proofs.Common.{◌≡◌, ℕ, ◌+◌, ◌-◌, ◌≤◌, Bool, true, false, ◌&&◌, Some, None, Option, sym, refl, ap, ◌∙◌, arith}
+use Rattle.std.proofs.Common.{◌≡◌, ℕ, ◌+◌, ◌-◌, ◌≤◌, Bool, true, false, ◌&&◌, Some, None, Option, refl, ap, ◌∙◌, arith}
 use Rattle.bucket.specs.Buckets.{PairUnits, is_pair, settled_limit, settled_units}
 use Rattle.bucket.proofs.Pairs.{fresh_is_pair, settled_is_pair, charged_is_pair, settled_twice}
 use Rattle.values.specs.Rates.{rates_allowed}
 use Rattle.account.specs.declared.row.Account.{Account}
-use Rattle.account.specs.Accounts.{units_at, with_units, sent_from, is_sound, settled_to, sent_at}
+use Rattle.account.specs.Accounts.{units_at, with_units, sent_from, is_sound, settled_to}
 use Rattle.account.specs.Laws.{AccountLaws}
 
 -- ---- soundness

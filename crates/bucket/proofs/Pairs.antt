@@ -2,8 +2,7 @@
 use Rattle.std.proofs.Common.{◌≡◌, ℕ, ◌+◌, ◌*◌, ◌≤◌, true, Some, None, Option, refl, ap, mul-le-mul_right, mul-zero, mul-add, arith}
 use Rattle.std.proofs.lemmas.Bool.Decides.{nat_tests}
 use Rattle.values.specs.Rates.{rates_allowed}
-use Rattle.values.specs.declared.rates.Rates.{Rates}
-use Rattle.bucket.specs.Buckets.{PairUnits, are_pair, capacity, charged_limit, charged_units, full_limit, is_pair, settled_limit, settled_pair, settled_units}
+use Rattle.bucket.specs.Buckets.{capacity, charged_limit, charged_units, full_limit, is_pair, settled_limit, settled_units}
 use Rattle.bucket.specs.Settling.{PairsStay, SettlesInSteps}
 
 pub fresh_is_pair : (burst : ℕ) (limit : Option ℕ) → is_pair burst limit 0 (full_limit limit burst) ≡ true

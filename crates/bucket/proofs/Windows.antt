@@ -2,7 +2,7 @@
 use Rattle.std.proofs.Common.{◌≡◌, ℕ, ◌+◌, ◌-◌, ◌*◌, ◌<◌, ◌≤◌, cond, leb, ◌⊎◌, List, [], ◌∷◌, sym, refl, ap, ◌∙◌, inl, inr, ⊎_elim, mul-le-mul_left, mul-add, arith}
 use Rattle.std.proofs.lemmas.Bool.Decides.{nat_tests, leb_tells}
 use Rattle.bucket.specs.Buckets.{capacity, charged_units, run_cost, settled_units}
-use Rattle.bucket.specs.Windows.{Course, Paid, WindowLaw, WindowReached, Windowed, within, starts, passes, charges}
+use Rattle.bucket.specs.Windows.{Paid, WindowLaw, WindowReached, within, starts, passes, charges}
 
 -- one instant, counted where it lies between two
 abbrev counted : (from to at : ℕ) → ℕ

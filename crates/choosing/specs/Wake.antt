@@ -1,5 +1,5 @@
 -- When to look again.
-use Rattle.std.specs.Prelude.{ℕ, min, max, cond, ltb, List, map, Some, None, Option, nat_lt}
+use Rattle.std.specs.Prelude.{ℕ, min, max, cond, List, map, Some, None, Option, nat_lt}
 use Rattle.account.specs.Accounts.{is_sound, released_from}
 use Rattle.account.specs.declared.row.Account.{Account}
 use Rattle.choosing.specs.Due.{effective_mark}
@@ -45,7 +45,7 @@ wake_key t heads micros k = cond (has_head t heads k) (earlier_of (after micros 
 
 -- the earliest of some instants
 abbrev pub earliest : List (Option ℕ) → Option ℕ
-earliest times = key_of (least_of ltb times)
+earliest times = key_of (least_of nat_lt times)
 
 abbrev pub wake_at : Tables → (ℕ → Option HeadRun) → ℕ → Option ℕ
 wake_at t heads micros = earliest (map (wake_key t heads micros) (range_with_len 0 64))

@@ -25,7 +25,7 @@ fn level_choice<R: SharingRule>(
     free: &[bool; 64],
     present: Instant,
 ) -> Option<usize>
-    ensures { result ≡ level_choice (level rule.now) tables.now (free_in free.now) present.micros }
+    ensures { result ≡ level_choice (R.level rule.now) tables.now (free_in free.now) present.micros }
 {
     match pool_choice(rule, tables, free, present) {
         Some(pool) => session_choice(rule, tables, free, present, pool),
@@ -40,7 +40,7 @@ fn choose_of<R: SharingRule>(
     free: &[bool; 64],
     present: Instant,
 ) -> Option<Choice>
-    ensures { result ≡ chosen_of (level rule.now) tables.now (free_in free.now) present.micros }
+    ensures { result ≡ chosen_of (R.level rule.now) tables.now (free_in free.now) present.micros }
 {
     if let Some(place) = due_choice(tables, free, present) {
         return Some(Choice { place, due: true });
@@ -58,8 +58,8 @@ pub fn choose<R: SharingRule>(
     heads: &[Option<Head>; 64],
     present: Instant,
 ) -> Option<Choice>
-    ensures is { result ≡ chosen (level rule.now) tables.now (run_at heads.now) present.micros }
-    ensures right { RightChoice (level rule.now) (record { tables = tables.entry.now; heads = run_at heads.now; micros = present.micros }) result }
+    ensures is { result ≡ chosen (R.level rule.now) tables.now (run_at heads.now) present.micros }
+    ensures right { RightChoice (R.level rule.now) (record { tables = tables.entry.now; heads = run_at heads.now; micros = present.micros }) result }
     ensures within { InTable result }
     ensures sendable { Sendable tables.now (run_at heads.now) result }
 {

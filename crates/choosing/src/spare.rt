@@ -1,4 +1,4 @@
-ghost use Rattle.std.specs.Prelude.{◌≡◌, ℕ, ◌<◌, false, cond, ◌&&◌, ◌||◌, get_or, Some, None, ◌==◌, slice_index_or};
+ghost use Rattle.std.specs.Prelude.{◌≡◌, ℕ, ◌<◌, false, cond, ◌&&◌, ◌||◌, Some, None, ◌==◌, slice_index_or};
 ghost use Rattle.choosing.specs.Free.{free_in};
 ghost use Rattle.choosing.specs.Spare.{level_at, pool_has_free, pool_level, session_key, pool_choice, session_choice};
 
@@ -12,7 +12,7 @@ use values::instant::Instant;
 
 // The level of an account, its service record moved on to an instant.
 fn level_at<R: SharingRule>(rule: &R, account: &Account, present: Instant) -> u64
-    ensures { result ≡ level_at (level rule.now) present.micros account.now }
+    ensures { result ≡ level_at (R.level rule.now) present.micros account.now }
 {
     let mut usage = account.usage;
     usage.move_on(present);
@@ -28,7 +28,7 @@ fn pool_key<R: SharingRule>(
     number: usize,
 ) -> Option<Level>
     requires { number < 16 }
-    ensures { result ≡ cond has_free (Some (pool_level (level rule.now) tables.now present.micros number)) None }
+    ensures { result ≡ cond has_free (Some (pool_level (R.level rule.now) tables.now present.micros number)) None }
 {
     if has_free {
         Some(Level {
@@ -42,7 +42,7 @@ fn pool_key<R: SharingRule>(
 
 // Notes that a pool, by its number, has a free session.
 fn note(has_free: &mut [bool; 16], number: u8, free: bool)
-    ensures { (p : ℕ) → p < 16 → get_or has_free.new p false ≡ (get_or has_free.old p false || (free && number == p)) }
+    ensures { (p : ℕ) → p < 16 → slice_index_or has_free.new p false ≡ (slice_index_or has_free.old p false || (free && number == p)) }
 {
     if free && number < 16 {
         has_free[number as usize] = true;
@@ -67,7 +67,7 @@ pub fn pool_choice<R: SharingRule>(
     free: &[bool; 64],
     present: Instant,
 ) -> Option<usize>
-    ensures { result ≡ pool_choice (level rule.now) tables.now (free_in free.now) present.micros }
+    ensures { result ≡ pool_choice (R.level rule.now) tables.now (free_in free.now) present.micros }
 {
     let has_free = pools_with_free(tables, free);
     let mut keys = [None; 16];
@@ -87,7 +87,7 @@ fn session_key<R: SharingRule>(
     place: usize,
 ) -> Option<Level>
     requires { place < 64 }
-    ensures { result ≡ session_key (level rule.now) tables.now (free_in free.now) present.micros pool place }
+    ensures { result ≡ session_key (R.level rule.now) tables.now (free_in free.now) present.micros pool place }
 {
     let row = &tables.sessions[place];
     if free[place] && row.pool as usize == pool {
@@ -108,7 +108,7 @@ pub fn session_choice<R: SharingRule>(
     present: Instant,
     pool: usize,
 ) -> Option<usize>
-    ensures { result ≡ session_choice (level rule.now) tables.now (free_in free.now) present.micros pool }
+    ensures { result ≡ session_choice (R.level rule.now) tables.now (free_in free.now) present.micros pool }
 {
     let mut keys = [None; 64];
     for place in 0..64 {

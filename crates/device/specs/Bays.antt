@@ -1,5 +1,5 @@
 -- A bay's runs, and exactly what its calls do to them, order included.
-use Rattle.std.specs.Prelude.{◌≡◌, ℕ, ◌+◌, ◌<◌, ◌≤◌, List, [], ◌∷◌, ◌++◌, length, take, slice_index_or}
+use Rattle.std.specs.Prelude.{◌≡◌, ℕ, ◌<◌, [], ◌∷◌, ◌++◌, length, take, slice_index_or}
 use Rattle.std.specs.List.{remove}
 use Rattle.values.specs.declared.io.Run.{Run}
 use Rattle.device.specs.declared.bay.Bay.{Bay}

@@ -1,5 +1,5 @@
 -- What a device means, and what its calls do to that.
-use Rattle.std.specs.Prelude.{◌≡◌, ℕ, ◌+◌, ◌<◌, ◌≤◌, List, [], ◌∷◌, ◌++◌, length, sum_by}
+use Rattle.std.specs.Prelude.{◌≡◌, ℕ, ◌+◌, ◌<◌, List, [], ◌∷◌, ◌++◌, length, sum_by}
 use Rattle.values.specs.declared.io.Run.{Run}
 
 -- two collections are the same, whatever their order: by every weight that elements can be given, the sums are equal

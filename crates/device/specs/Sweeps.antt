@@ -1,5 +1,5 @@
 -- The run that an elevator's arm goes to next.
-use Rattle.std.specs.Prelude.{◌≡◌, ℕ, ◌+◌, ◌-◌, ◌%◌, ◌^◌, ◌<◌, ◌≤◌, List, length, slice_index_or}
+use Rattle.std.specs.Prelude.{ℕ, ◌+◌, ◌-◌, ◌%◌, ◌^◌, ◌<◌, ◌≤◌, List, length, slice_index_or}
 use Rattle.order.specs.declared.keys.Distance.{Distance}
 use Rattle.values.specs.declared.io.Run.{Run}
 

@@ -3,7 +3,7 @@ use Rattle.std.proofs.Common.{◌≡◌, ℕ, ◌+◌, ◌<◌, ◌≤◌, Bool,
 use Rattle.std.proofs.lemmas.List.{drop_more, at_drop_all}
 use Rattle.std.proofs.lemmas.Bool.{eq-eqb, ne_eqb, cond-true, cond-false}
 use Rattle.values.specs.declared.io.Io.{Io}
-use Rattle.heads.specs.Heads.{HeadRun, of_session, joins, alone, longer, grow, grown, with_one, onward, head_of}
+use Rattle.heads.specs.Heads.{HeadRun, of_session, joins, longer, grow, with_one, onward, head_of}
 
 pub onward_none : (r : Option HeadRun) → onward r [] ≡ r
 onward_none None = refl

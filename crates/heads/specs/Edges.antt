@@ -1,5 +1,5 @@
 -- Worked examples of head runs, as theorems of the very definitions that the contracts cite.
-use Rattle.std.specs.Prelude.{◌≡◌, ℕ, ◌+◌, ◌≤◌, List, [], ◌∷◌, Some, None}
+use Rattle.std.specs.Prelude.{◌≡◌, ℕ, ◌+◌, ◌≤◌, [], ◌∷◌, Some, None}
 use Rattle.std.proofs.Common.{lit≤}
 use Rattle.line.specs.Line.{without}
 use Rattle.values.specs.declared.direction.Direction.TheVariants.{Read, Write}

@@ -1,6 +1,6 @@
 -- What the calls of a line do, over plain lists: `places` is the whole lent table, `len` how many of its places are in
 -- use, and a prime marks the value after the call.
-use Rattle.std.specs.Prelude.{◌≡◌, ℕ, zero, suc, ◌+◌, ◌-◌, ◌<◌, ◌≤◌, Bool, true, false, cond, List, [], ◌∷◌, ◌++◌, length, take, drop, set, Some, None, Option, ◌==◌, slice_index_or, slice_set}
+use Rattle.std.specs.Prelude.{◌≡◌, ℕ, zero, suc, ◌+◌, ◌-◌, ◌<◌, ◌≤◌, Bool, true, false, cond, List, [], ◌∷◌, ◌++◌, length, take, drop, Some, None, Option, ◌==◌, slice_index_or, slice_set}
 use Rattle.std.specs.List.{remove}
 
 -- the records of a line: its used places, from the first on

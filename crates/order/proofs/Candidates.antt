@@ -5,7 +5,7 @@ use Rattle.std.specs.List.{IsFirstBest}
 use Rattle.std.proofs.lemmas.List.MinMax.{IsFirstBest-keeps, IsFirstBest-takes}
 use Rattle.std.proofs.lemmas.List.{get_or_read}
 use Rattle.order.specs.Order.{missing_last}
-use Rattle.order.specs.Least.{Candidate, NoneBefore, LeastAt, LeastCandidate, TiesShareName, DifferentNames, OnlyChoice}
+use Rattle.order.specs.Least.{LeastCandidate, TiesShareName, DifferentNames, OnlyChoice}
 
 -- the key x at i is seen, and y was the best so far: of the two that one stays which goes first
 pub first_best_more : {X : Type 0} {before : X → X → Bool} (o : IsStrictWeakOrder before) (xs : List X) (i b : ℕ) (x y : X) (r : ℕ) → IsFirstBest before xs i b → i < length xs → x ≡ get_or xs i x → y ≡ get_or xs b y → r ≡ cond (before x y) i b → IsFirstBest before xs (i + 1) r

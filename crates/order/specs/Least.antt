@@ -1,5 +1,5 @@
 -- The least key of a line of keys.
-use Rattle.std.specs.Prelude.{◌≡◌, ℕ, suc, ◌<◌, Bool, true, false, cond, List, [], ◌∷◌, map, length, Some, None, Option, slice_index_or}
+use Rattle.std.specs.Prelude.{◌≡◌, ℕ, suc, ◌<◌, Bool, true, false, cond, List, [], ◌∷◌, length, Some, None, Option, slice_index_or}
 use Rattle.std.specs.List.{IsFirstBest}
 
 -- the place of the least key: none exactly if there are no keys; else no key goes before it, and it goes before each key that stands earlier in line

@@ -5,7 +5,7 @@ ghost use Rattle.std.specs.Cmp.{IsStrictWeakOrder};
 ghost use Rattle.std.proofs.Common.{rules};
 
 // A key to choose by: `before x y` says that x goes strictly first.
-// `Ranks` says that no two keys go before one another and that "not before" carries over: every two keys compare, and keys that tie are alike to every other key.
+// `IsStrictWeakOrder` says that no two keys go before one another and that "not before" carries over: every two keys compare, and keys that tie are alike to every other key.
 pub trait Key {
     ghost before: { Self → Self → Bool };
 

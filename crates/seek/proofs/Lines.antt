@@ -1,11 +1,11 @@
 -- A text read line by line.
-use Rattle.std.proofs.Common.{◌≡◌, ℕ, ◌+◌, ◌%◌, ◌^◌, ◌<◌, ◌≤◌, Bool, true, false, cond, eqb, List, [], ◌∷◌, ◌++◌, map, length, Ok, Err, Result, sym, refl, ap, ◌∙◌, subst, arith}
+use Rattle.std.proofs.Common.{◌≡◌, ℕ, ◌+◌, ◌%◌, ◌^◌, ◌<◌, ◌≤◌, Bool, true, false, cond, eqb, List, [], ◌∷◌, ◌++◌, map, length, Ok, Err, Result, sym, refl, ap, ◌∙◌, arith}
 use Rattle.std.proofs.lemmas.List.{append-nil, append_assoc, map_push}
 use Rattle.values.specs.declared.extent.Extent.{Extent}
 use Rattle.values.specs.declared.io.Run.{Run}
 use Rattle.seek.specs.declared.request.LineFault.{LineFault}
 use Rattle.seek.specs.declared.text.BadLine.{BadLine}
-use Rattle.seek.specs.Requests.{before_first, after_first, requested}
+use Rattle.seek.specs.Requests.{before_byte, after_byte, requested}
 use Rattle.seek.specs.Texts.{in_front, lines_of, request_in, fault_in, requests_from, faults_from, run_says, bad_says}
 
 -- ---- one line
@@ -33,22 +33,22 @@ front_line b bs line lines after true e h = refl
 front_line b bs line lines after false e h = ap (in_front b) (e ∙ h refl)
 
 -- what stands before and after the first newline is the first line and the others
-first_line : (b : ℕ) (bs : List ℕ) → lines_of (b ∷ bs) ≡ before_first 10 (b ∷ bs) ∷ lines_of (after_first 10 (b ∷ bs))
+first_line : (b : ℕ) (bs : List ℕ) → lines_of (b ∷ bs) ≡ before_byte 10 (b ∷ bs) ∷ lines_of (after_byte 10 (b ∷ bs))
 first_line b [] = last (eqb b 10)
   where
     last : (t : Bool) → cond t ([] ∷ []) ((b ∷ []) ∷ []) ≡ cond t [] (b ∷ []) ∷ lines_of (cond t [] [])
     last true = refl
     last false = refl
-first_line b (c ∷ bs) = let h = first_line c bs in front_line b (c ∷ bs) (before_first 10 (c ∷ bs)) (lines_of (c ∷ bs)) (after_first 10 (c ∷ bs)) (eqb b 10) refl (λ _. h)
+first_line b (c ∷ bs) = let h = first_line c bs in front_line b (c ∷ bs) (before_byte 10 (c ∷ bs)) (lines_of (c ∷ bs)) (after_byte 10 (c ∷ bs)) (eqb b 10) refl (λ _. h)
 
 either_shorter : (xs ys : List ℕ) (n : ℕ) (t : Bool) → length xs < n → length ys < n → length (cond t xs ys) < n
 either_shorter xs ys n true p q = p
 either_shorter xs ys n false p q = q
 
 -- each line has a byte at least, its newline or one of its own
-after_less : (b : ℕ) (bs : List ℕ) → length (after_first 10 (b ∷ bs)) < length (b ∷ bs)
+after_less : (b : ℕ) (bs : List ℕ) → length (after_byte 10 (b ∷ bs)) < length (b ∷ bs)
 after_less b [] = either_shorter [] [] 1 (eqb b 10) (omega arith) (omega arith)
-after_less b (c ∷ bs) = let h = after_less c bs in either_shorter (c ∷ bs) (after_first 10 (c ∷ bs)) (length (b ∷ c ∷ bs)) (eqb b 10) (omega arith) (omega arith)
+after_less b (c ∷ bs) = let h = after_less c bs in either_shorter (c ∷ bs) (after_byte 10 (c ∷ bs)) (length (b ∷ c ∷ bs)) (eqb b 10) (omega arith) (omega arith)
 
 -- the first n lines were read, and this is left
 pub record Reading (text : List ℕ) (n : ℕ) (left : List ℕ) (runs : List Run) (bad : List BadLine) : Type 0 where
@@ -59,12 +59,12 @@ pub record Reading (text : List ℕ) (n : ℕ) (left : List ℕ) (runs : List Ru
 pub reading_none : (text : List ℕ) (runs : List Run) (bad : List BadLine) → runs ≡ [] → bad ≡ [] → Reading text 0 text runs bad
 reading_none text runs bad r b = record { requests = ap (λ l. map run_says l ++ requests_from 0 (lines_of text)) r; faults = ap (λ l. map bad_says l ++ faults_from 0 (lines_of text)) b; within = omega arith }
 
-pub reading_shorter : (left after : List ℕ) → (length left ≡ 0 → ⊥) → after ≡ after_first 10 left → length after < length left
+pub reading_shorter : (left after : List ℕ) → (length left ≡ 0 → ⊥) → after ≡ after_byte 10 left → length after < length left
 reading_shorter [] after some e = absurd (some refl)
 reading_shorter (b ∷ bs) after some e = let h = after_less b bs in let l = ap length e in omega arith
 
 module _ (text : List ℕ) (n : ℕ) (runs : List Run) (bad : List BadLine) (runs' : List Run) (bad' : List BadLine) where
-  pub reading_more : (left line after : List ℕ) → (length left ≡ 0 → ⊥) → Reading text n left runs bad → line ≡ before_first 10 left → after ≡ after_first 10 left → map run_says runs' ≡ map run_says runs ++ request_in n (requested line) → map bad_says bad' ≡ map bad_says bad ++ fault_in n (requested line) → Reading text (n + 1) after runs' bad'
+  pub reading_more : (left line after : List ℕ) → (length left ≡ 0 → ⊥) → Reading text n left runs bad → line ≡ before_byte 10 left → after ≡ after_byte 10 left → map run_says runs' ≡ map run_says runs ++ request_in n (requested line) → map bad_says bad' ≡ map bad_says bad ++ fault_in n (requested line) → Reading text (n + 1) after runs' bad'
   reading_more [] line after some h l a r b = absurd (some refl)
   reading_more (x ∷ bs) line after some h l a r b =
       let lines : lines_of (x ∷ bs) ≡ line ∷ lines_of after = first_line x bs ∙ (λ t. sym l t ∷ lines_of (sym a t)) in

@@ -1,13 +1,13 @@
 -- Turn after turn: from an empty device each turn serves one run, so that in the end each run was served once.
-use Rattle.std.proofs.Common.{◌≡◌, ℕ, ◌+◌, ◌-◌, ◌<◌, ◌≤◌, min, List, [], ◌∷◌, ◌++◌, length, get_or, take, drop, Some, None, sum_by, Option, sym, refl, ap, ◌∙◌, subst, ⊎_elim, arith, take-add, MatchOption}
+use Rattle.std.proofs.Common.{◌≡◌, ℕ, ◌+◌, ◌<◌, ◌≤◌, min, List, [], ◌∷◌, ◌++◌, length, take, drop, Some, None, sum_by, Option, sym, refl, ap, ◌∙◌, subst, ⊎_elim, arith, take-add, MatchOption}
 use Rattle.std.specs.Option.{option_to_list}
-use Rattle.std.proofs.lemmas.List.{append-nil, length-append, length-drop, length-take-le, take_all, nil_from_length, take-append-drop}
+use Rattle.std.proofs.lemmas.List.{append-nil, length-append, length-drop, length-take-le, take_all, nil_from_length}
 use Rattle.std.proofs.lemmas.Bool.{cases_lt}
-use Rattle.std.proofs.lemmas.List.Sums.{sum_by-append, sum_by-cons, sum_by-take-drop}
+use Rattle.std.proofs.lemmas.List.Sums.{sum_by-append, sum_by-cons}
 use Rattle.values.specs.declared.io.Run.{Run}
 use Rattle.device.specs.Meaning.{Meaning, Same, held_by, Worked, Took}
 use Rattle.device.proofs.Collections.{same_length}
-use Rattle.seek.specs.Courses.{Joined, Filled, Turn, Course, start, turn, Served}
+use Rattle.seek.specs.Courses.{Joined, Turn, Course, start, turn, Served}
 
 -- from an empty device: what was put was served or is at work, nothing waits to be taken, and each of i turns served one
 pub record Counted (runs : List Run) (i next : ℕ) (served : List Run) (m : Meaning) : Type 0 where

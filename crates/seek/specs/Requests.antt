@@ -5,13 +5,13 @@ use Rattle.seek.specs.declared.request.LineFault.TheVariants.{NotTwoNumbers, Len
 use Rattle.seek.specs.Numerals.{numeral}
 
 -- the bytes before the first of a kind, and those after it
-abbrev pub before_first : ℕ → List ℕ → List ℕ
-before_first mark [] = []
-before_first mark (b ∷ bs) = cond (b == mark) [] (b ∷ before_first mark bs)
+abbrev pub before_byte : ℕ → List ℕ → List ℕ
+before_byte mark [] = []
+before_byte mark (b ∷ bs) = cond (b == mark) [] (b ∷ before_byte mark bs)
 
-abbrev pub after_first : ℕ → List ℕ → List ℕ
-after_first mark [] = []
-after_first mark (b ∷ bs) = cond (b == mark) bs (after_first mark bs)
+abbrev pub after_byte : ℕ → List ℕ → List ℕ
+after_byte mark [] = []
+after_byte mark (b ∷ bs) = cond (b == mark) bs (after_byte mark bs)
 
 -- two numbers as address and length: the first fault in this order
 abbrev pub judged : Option ℕ → Option ℕ → Result (ℕ × ℕ) LineFault
@@ -21,7 +21,7 @@ judged (Some a) (Some l) = cond (nat_le 1 l && nat_le l 64) (cond (nat_le (a + l
 
 -- what a line asks for: address and length
 abbrev pub requested : List ℕ → Result (ℕ × ℕ) LineFault
-requested line = judged (numeral (before_first 32 line)) (numeral (after_first 32 line))
+requested line = judged (numeral (before_byte 32 line)) (numeral (after_byte 32 line))
 
 -- what is printed of a fault
 abbrev pub fault_text : LineFault → List ℕ

@@ -1,5 +1,5 @@
 -- A whole text of requests, a line each.
-use Rattle.std.specs.Prelude.{◌≡◌, ℕ, ◌+◌, ◌%◌, ◌^◌, cond, List, [], ◌∷◌, ◌++◌, map, Ok, Err, Result, ◌==◌}
+use Rattle.std.specs.Prelude.{ℕ, ◌+◌, ◌%◌, ◌^◌, cond, List, [], ◌∷◌, ◌++◌, Ok, Err, Result, ◌==◌}
 use Rattle.values.specs.Direction.{direction_number}
 use Rattle.values.specs.declared.io.Run.{Run}
 use Rattle.seek.specs.declared.request.LineFault.{LineFault}

@@ -1,6 +1,6 @@
 ghost use Rattle.std.specs.Prelude.{◌≡◌, ℕ, ◌+◌, ◌-◌, ◌*◌, ◌^◌, ◌<◌, ◌≤◌, min, Ok, Err, MatchResult};
 ghost use Rattle.seek.specs.Numerals.{is_digit, numeral};
-ghost use Rattle.seek.specs.Requests.{before_first, after_first, judged, requested, fault_text};
+ghost use Rattle.seek.specs.Requests.{before_byte, after_byte, judged, requested, fault_text};
 ghost use Rattle.std.specs.Option.{option_map};
 
 use values::extent::Extent;
@@ -63,7 +63,7 @@ fn decimal(text: &[u8]) -> Option<u64>
 
 // The parts of a text before and after its first byte of a kind.
 pub(crate) fn split(text: &[u8], mark: u8) -> (&[u8], &[u8])
-    ensures { (result.0.now ≡ before_first mark text.now) × (result.1.now ≡ after_first mark text.now) }
+    ensures { (result.0.now ≡ before_byte mark text.now) × (result.1.now ≡ after_byte mark text.now) }
 {
     for i in 0..text.len() {
         if text[i] == mark {

@@ -23,7 +23,7 @@ impl Steady for Elevator {
 
 // Puts runs from the first on as long as there is room; how many were put.
 fn fill<D: Device>(device: &mut D, runs: &[Run]) -> usize
-    ensures { Filled means puts device.old runs.now result device.new }
+    ensures { Filled D.means D.puts device.old runs.now result device.new }
 {
     for i in 0..runs.len() {
         if !device.put(runs[i]) {
@@ -42,7 +42,7 @@ struct TurnDone {
 
 // One turn: puts what fits, works once, and takes one run that is done.
 fn turn<D: Device>(device: &mut D, runs: &[Run]) -> TurnDone
-    ensures { Turn means puts works takes device.old runs.now result.put result.served device.new }
+    ensures { Turn D.means D.puts D.works D.takes device.old runs.now result.put result.served device.new }
 {
     let put = fill(device, runs);
     device.work();

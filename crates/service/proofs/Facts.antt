@@ -1,5 +1,5 @@
 -- What the type says of a service's tables in numbers, and that every call keeps it.
-use Rattle.std.proofs.Common.{◌≡◌, ℕ, ◌+◌, ◌<◌, ◌≤◌, Bool, true, false, cond, eqb, ltb, leb, List, length, get_or, set, Some, None, Ok, Err, Option, Result, sym, refl, ◌∙◌, subst, arith, lit≤, length-set}
+use Rattle.std.proofs.Common.{◌≡◌, ℕ, ◌+◌, ◌<◌, ◌≤◌, Bool, true, false, cond, eqb, ltb, leb, length, get_or, set, Some, None, Ok, Err, Option, Result, sym, refl, ◌∙◌, subst, arith, lit≤, length-set}
 use mathlib.Core.Logic.{∥∥₁_map}
 use Rattle.account.specs.Accounts.{opened}
 use Rattle.device.specs.Meaning.{Meaning}
@@ -26,20 +26,20 @@ use Rattle.service.proofs.Tables.{each_set, each_same}
 
 -- the same as the type says it
 abbrev pub Ghosts : Tables → Type 0
-Ghosts t =
-    (t.latest ≤ 1099511627775)
-    × ((t.made ≤ 16)
-    × ((t.opened ≤ 4000000000)
-    × ((t.arrivals ≤ 4000000000)
-    × (Counts t.arrivals t.sessions
-    × ((length t.sessions ≡ 64)
-    × ((length t.pools ≡ 16)
-    × ((t.orders + unsent_in t.sessions ≤ t.arrivals + t.opened + t.made)
-    × (∥ Sound t ∥₁
-    × Unit {0}))))))))
+Ghosts t = record {
+  lawful : t.latest ≤ 1099511627775;
+  places : t.made ≤ 16;
+  openings : t.opened ≤ 4000000000;
+  few : t.arrivals ≤ 4000000000;
+  counts : Counts t.arrivals t.sessions;
+  wide : length t.sessions ≡ 64;
+  deep : length t.pools ≡ 16;
+  numbered : t.orders + unsent_in t.sessions ≤ t.arrivals + t.opened + t.made;
+  sound : ∥ Sound t ∥₁;
+}
 
 pub said : (t : Tables) → Numbers t → Ghosts t
-said t f = (f.lawful, (f.places, (f.openings, (f.few, (f.counts, (f.wide, (f.deep, (f.numbered, (f.sound, tt)))))))))
+said t f = record { lawful = f.lawful; places = f.places; openings = f.openings; few = f.few; counts = f.counts; wide = f.wide; deep = f.deep; numbered = f.numbered; sound = f.sound }
 
 pub counts_are : (n : ℕ) (r : Session) → r.unsent + r.inside ≤ r.accepted → r.accepted ≤ n → counts_fit n r ≡ true
 counts_are n r p q = and_from (leb (r.unsent + r.inside) r.accepted) (leb r.accepted n) (le-leb _ _ p) (le-leb _ _ q)

@@ -1,6 +1,5 @@
 -- Every call leaves sound tables sound, told as a step from one moment to another.
-use Rattle.std.proofs.Common.{◌≡◌, ℕ, Some, None, Ok, Err, Option, sym, ap, ◌∙◌, subst}
-use Rattle.service.specs.declared.rows.Tables.{Tables}
+use Rattle.std.proofs.Common.{◌≡◌, ℕ, Ok, Err, Option, sym, subst}
 use Rattle.service.specs.Calls.{Place, pool_in, open_in, arrival_in, end_at, close_in}
 use Rattle.service.specs.Laws.{StaysSound}
 use Rattle.service.specs.Moments.{Moment, Call, makes_pool, opens, arrives, ends, closes, collects, Answer, Leads, full_at}

@@ -11,7 +11,7 @@ use Rattle.service.specs.declared.find.Wanted.TheVariants.{OpenAs}
 use Rattle.service.specs.declared.rows.HandedBack.{HandedBack}
 use Rattle.service.specs.declared.rows.Tables.{Tables}
 use Rattle.service.specs.Calls.{Place, arrival_at, CollectRefused, pool_place, pool_in, pool_call, open_place, open_in, open_call, arrival_place, arrival_in, arrival_call, arrived, line_full, LineAfter, end_at, end_call, close_place, close_in, close_call, back_full, Collected, BackAfter}
-use Rattle.service.specs.Rows.{session, first_fit}
+use Rattle.service.specs.Rows.{first_fit}
 use Rattle.service.specs.Moments.{Moment, moment_of, with_tables, full_at, PoolStep, OpenStep, ArrivalStep, EndStep, CloseStep, CollectStep}
 
 -- a step that is told by equations of the answer and of what is left

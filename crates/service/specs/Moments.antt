@@ -1,5 +1,5 @@
 -- Moments of a service with its waiting line and device, and what each call, with its answer, leads from and to.
-use Rattle.std.specs.Prelude.{◌≡◌, ℕ, ◌+◌, min, Bool, false, List, [], ◌∷◌, ◌++◌, length, Some, None, Ok, Err, Result, ◌==◌, nat_le}
+use Rattle.std.specs.Prelude.{◌≡◌, ℕ, min, Bool, false, List, [], ◌∷◌, ◌++◌, length, Some, None, Ok, Err, Result, ◌==◌, nat_le}
 use Rattle.device.specs.Meaning.{Meaning, Took}
 use Rattle.line.specs.Line.{records_of}
 use Rattle.values.specs.declared.instant.Instant.{Instant}

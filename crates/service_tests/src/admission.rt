@@ -1,4 +1,5 @@
 use super::tools::*;
+use std::test::Fail;
 
 // Throughput 112: reserves 60 and 52 pass, 60 and 53 give 11.
 #[test]

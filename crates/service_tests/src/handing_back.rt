@@ -3,6 +3,7 @@ use device::device::Device;
 use device::store::LineStore;
 use line::Line;
 use service::rows::HandedBack;
+use std::test::Fail;
 use values::io::Run;
 
 // A run of a device that no service sent.

@@ -1,5 +1,6 @@
 use super::tools::*;
 use line::Line;
+use std::test::Fail;
 
 // Arrivals are counted from 0 for each session; ended, unknown and closed sessions take none; a full line takes none.
 #[test]

@@ -8,7 +8,7 @@ use Rattle.stream.specs.declared.fault.StreamFault.{StreamFault}
 use Rattle.stream.specs.declared.fault.StreamWhy.{StreamWhy}
 use Rattle.stream.specs.declared.field.Field.{Field}
 use Rattle.stream.specs.Events.{event_of, placed}
-use Rattle.stream.specs.Fields.{PlainField, field_size, field_from, spelled_at, spelled_by, one_read, decoded, event_from, plain_field, plainly, InPlace, ValueInPlace}
+use Rattle.stream.specs.Fields.{PlainField, field_size, field_from, spelled_at, spelled_by, one_read, decoded, event_from, plain_field, plainly, ValueInPlace}
 use Rattle.stream.specs.Numbers.{big_endian}
 
 -- a field comes out only where none of the tests refuses it

@@ -1,12 +1,12 @@
 -- A stream read event by event.
-use Rattle.std.proofs.Common.{◌≡◌, ℕ, zero, suc, ◌+◌, ◌-◌, ◌<◌, ◌≤◌, eqb, leb, List, [], ◌∷◌, ◌++◌, length, take, drop, Some, None, Ok, Err, Option, Result, sym, refl, ap, ◌∙◌, subst, arith}
+use Rattle.std.proofs.Common.{◌≡◌, ℕ, zero, suc, ◌+◌, ◌-◌, ◌≤◌, List, [], ◌∷◌, ◌++◌, length, take, drop, Some, None, Ok, Err, sym, refl, ap, ◌∙◌, subst, arith}
 use Rattle.std.specs.List.{flat_map}
 use Rattle.std.proofs.lemmas.List.{append-nil, append_assoc, drop-drop, length-drop, length-take-le, flat_map_more}
 use Rattle.stream.specs.declared.event.Spelled.{Spelled}
 use Rattle.stream.specs.declared.fault.StreamFault.{StreamFault}
 use Rattle.stream.specs.Fields.{field_size, event_from}
-use Rattle.stream.specs.Streams.{Outcome, in_front_of, read_from, stream_of, part_of, Adjoining, ends_at, last_read, MakesUp}
-use Rattle.stream.proofs.Cutting.{Tells, tells_of}
+use Rattle.stream.specs.Streams.{Outcome, in_front_of, read_from, stream_of, part_of, Adjoining, MakesUp}
+use Rattle.stream.proofs.Cutting.{tells_of}
 
 -- ---- the definition, field by field
 

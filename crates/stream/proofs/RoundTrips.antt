@@ -1,5 +1,5 @@
 -- Reading what was written.
-use Rattle.std.proofs.Common.{◌≡◌, ℕ, zero, suc, ◌+◌, ◌*◌, ◌/◌, ◌%◌, ◌^◌, ◌<◌, ◌≤◌, Bool, true, false, cond, eqb, leb, List, [], ◌∷◌, ◌++◌, length, get_or, take, drop, Some, None, Ok, Err, Option, Result, sym, refl, ap, ◌∙◌, subst, mod-eq_of_lt, mul_assoc, mul_comm, add-mul, pow-suc, add-one, arith, lit<}
+use Rattle.std.proofs.Common.{◌≡◌, ℕ, zero, suc, ◌+◌, ◌*◌, ◌/◌, ◌%◌, ◌^◌, ◌<◌, ◌≤◌, Bool, true, false, cond, eqb, leb, List, [], ◌∷◌, ◌++◌, length, get_or, take, drop, Some, None, Ok, Option, Result, sym, refl, ap, ◌∙◌, subst, mod-eq_of_lt, mul_assoc, mul_comm, add-mul, pow-suc, arith, lit<}
 use native.Mathlib.Nat.{one-le-pow, mod-one}
 use lib.Arith.{mod-mul}
 use Rattle.std.specs.List.{flat_map, AllByRecursion as All}
@@ -12,10 +12,10 @@ use Rattle.stream.specs.declared.event.Spelled.{Spelled}
 use Rattle.stream.specs.declared.fault.StreamFault.{StreamFault}
 use Rattle.stream.specs.declared.fault.StreamWhy.{StreamWhy}
 use Rattle.stream.specs.Events.{event_of, placed}
-use Rattle.stream.specs.Fields.{PlainField, field_size, field_from, spelled_at, spelled_by, one_read, decoded, event_from}
+use Rattle.stream.specs.Fields.{field_size, field_from, spelled_at, spelled_by, one_read, decoded, event_from}
 use Rattle.stream.specs.Numbers.{big_endian_after, big_endian, bytes_of}
 use Rattle.stream.specs.Spelling.{tag_in, value_in, spelling, NumbersFit, events_at, ReadBack, RoundTrip}
-use Rattle.stream.specs.Streams.{Outcome, in_front_of, read_from, stream_of}
+use Rattle.stream.specs.Streams.{in_front_of, read_from}
 use Rattle.stream.specs.Tags.{tag_number}
 use Rattle.stream.proofs.Gathering.{by_fields}
 

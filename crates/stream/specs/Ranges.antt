@@ -1,5 +1,5 @@
 -- Events turned into checked values.
-use Rattle.std.specs.Prelude.{ℕ, ◌+◌, Bool, true, ◌&&◌, ◌||◌, Option, ◌==◌, nat_le}
+use Rattle.std.specs.Prelude.{ℕ, ◌+◌, Bool, true, ◌&&◌, ◌||◌, ◌==◌, nat_le}
 use Rattle.values.specs.declared.direction.Direction.TheVariants.{Read, Write}
 use Rattle.values.specs.Direction.{direction_number}
 use Rattle.values.specs.Rates.{rates_allowed}

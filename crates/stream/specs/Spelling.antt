@@ -1,6 +1,6 @@
 -- Events as bytes.
 use Rattle.std.specs.Prelude.{◌≡◌, ℕ, ◌+◌, ◌^◌, ◌<◌, List, [], ◌∷◌, ◌++◌, length, Some, None, Option}
-use Rattle.std.specs.List.{flat_map, AllByRecursion as All}
+use Rattle.std.specs.List.{flat_map, AllByRecursion}
 use Rattle.stream.specs.declared.event.Event.{Event}
 use Rattle.stream.specs.declared.event.Event.TheVariants.{Begin, Pool, Open, Arrival, Schedule, End, Close, Work, Collect}
 use Rattle.stream.specs.declared.event.Spelled.{Spelled}
@@ -8,7 +8,7 @@ use Rattle.stream.specs.declared.tag.Tag.{Tag}
 use Rattle.stream.specs.declared.tag.Tag.TheVariants as tag
 use Rattle.stream.specs.Names.{rule_name}
 use Rattle.stream.specs.Numbers.{bytes_of}
-use Rattle.stream.specs.Streams.{Outcome, stream_of}
+use Rattle.stream.specs.Streams.{stream_of}
 use Rattle.stream.specs.Tags.{tag_number}
 
 -- the tag of an event's field
@@ -76,4 +76,4 @@ ReadBack events bytes = stream_of bytes ≡ record { events = events_at 0 events
 
 -- what was written is read back, for every list of events whose numbers fit
 abbrev pub RoundTrip : Type 0
-RoundTrip = (events : List Event) → All NumbersFit events → ReadBack events (flat_map spelling events)
+RoundTrip = (events : List Event) → AllByRecursion NumbersFit events → ReadBack events (flat_map spelling events)

@@ -183,7 +183,7 @@ pub fn write_event(out: &mut Vec<u8>, event: Event) -> Result<(), AllocError>
     ensures bytes { out.new.items ≡ (if is_ok result then out.old.items ++ spelling event else out.old.items) }
     ensures fits { NumbersFit event }
 {
-    let field = field_of(out.allocator(), event)?;
+    let field = field_of(*out.allocator(), event)?;
     out.extend_from_slice(&field)
 }
 

@@ -1,5 +1,5 @@
 -- The rates of a pool or session.
-use Rattle.std.specs.Prelude.{ℕ, ◌≤◌, Bool, true, ◌&&◌, Some, None, Option, nat_le}
+use Rattle.std.specs.Prelude.{ℕ, Bool, true, ◌&&◌, Some, None, Option, nat_le}
 
 -- a limit is absent, or 1 to 100,000 runs per second and at least the reserve
 abbrev pub limit_allowed : ℕ → Option ℕ → Bool

@@ -1,6 +1,6 @@
-ghost use Rattle.std.specs.Prelude.{◌≡◌, ℕ, ◌<◌, List, ◌∷◌, get_or, None, slice_index_or};
+ghost use Rattle.std.specs.Prelude.{◌≡◌, ℕ, ◌<◌, List, ◌∷◌, None, slice_index_or};
 ghost use Rattle.heads.specs.Heads.{finally, head_says, HeadsOf};
-ghost use Rattle.heads.specs.Places.{ends_with, still};
+ghost use Rattle.heads.specs.Places.{final_at, still};
 ghost use Rattle.std.specs.Option.{option_map};
 ghost use Rattle.values.specs.declared.io.Io.{Io};
 
@@ -39,7 +39,7 @@ fn met(growing: Growing, name: Option<u32>, io: Io) -> Growing
 
 // What an I/O makes of the runs of all places.
 fn meet(growing: &mut [Growing; 64], names: &[Option<u32>; 64], io: Io)
-    ensures { (k : ℕ) (ios : List Io) → k < 64 → ends_with growing.new names.now k ios ≡ ends_with growing.old names.now k (io ∷ ios) }
+    ensures { (k : ℕ) (ios : List Io) → k < 64 → final_at growing.new names.now k ios ≡ final_at growing.old names.now k (io ∷ ios) }
 {
     for place in 0..64 {
         growing[place] = met(growing[place], names[place], io);
@@ -48,7 +48,7 @@ fn meet(growing: &mut [Growing; 64], names: &[Option<u32>; 64], io: Io)
 
 // The runs that were found.
 fn found(growing: &[Growing; 64]) -> [Option<Head>; 64]
-    ensures { (k : ℕ) → k < 64 → slice_index_or result k None ≡ (get_or growing.now k still).head }
+    ensures { (k : ℕ) → k < 64 → slice_index_or result k None ≡ (slice_index_or growing.now k still).head }
 {
     let mut heads = [None; 64];
     for place in 0..64 {

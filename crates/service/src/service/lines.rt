@@ -33,12 +33,12 @@ impl<R: SharingRule> Service<R> {
         device: &mut D,
         back: &mut Line<'_, HandedBack>,
     ) -> Result<HandedBack, ServiceFault>
-        ensures done { Collected result (back_full back.old.places.now back.old.len) self.old.tables (means device.old) self.new.tables (means device.new) }
-        ensures exact { DeviceAfter takes result device.old device.new }
+        ensures done { Collected result (back_full back.old.places.now back.old.len) self.old.tables (D.means device.old) self.new.tables (D.means device.new) }
+        ensures exact { DeviceAfter D.takes result device.old device.new }
         ensures rule { self.new.rule ≡ self.old.rule }
         ensures same { back.new.places.ghost_name ≡ back.old.places.ghost_name }
         ensures line { BackAfter result back.old.places.now back.old.len back.new.places.now back.new.len }
-        ensures step { (places : ℕ) (waiting : List Io) → Leads (collects (length back.old.places.now) (records_of back.old.places.now back.old.len) (records_of back.new.places.now back.new.len)) result (moment_at self.old.tables places waiting (means device.old)) (moment_at self.new.tables places waiting (means device.new)) }
+        ensures step { (places : ℕ) (waiting : List Io) → Leads (collects (length back.old.places.now) (records_of back.old.places.now back.old.len) (records_of back.new.places.now back.new.len)) result (moment_at self.old.tables places waiting (D.means device.old)) (moment_at self.new.tables places waiting (D.means device.new)) }
     {
         self.tables.collect(device, back)
     }

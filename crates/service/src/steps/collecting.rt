@@ -43,8 +43,8 @@ impl Tables {
         device: &mut D,
         back: &mut Line<'_, HandedBack>,
     ) -> Result<HandedBack, ServiceFault>
-        ensures done { Collected result (back_full back.old.places.now back.old.len) self.old (means device.old) self.new (means device.new) }
-        ensures exact { DeviceAfter takes result device.old device.new }
+        ensures done { Collected result (back_full back.old.places.now back.old.len) self.old (D.means device.old) self.new (D.means device.new) }
+        ensures exact { DeviceAfter D.takes result device.old device.new }
         ensures same { back.new.places.ghost_name ≡ back.old.places.ghost_name }
         ensures line { BackAfter result back.old.places.now back.old.len back.new.places.now back.new.len }
     {

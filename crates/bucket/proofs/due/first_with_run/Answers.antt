@@ -1,4 +1,4 @@
-use Rattle.std.proofs.Common.{◌≡◌, ℕ, ◌+◌, ◌≤◌, sym, ap, subst, arith}
+use Rattle.std.proofs.Common.{◌≡◌, ◌+◌, ◌≤◌, sym, ap, subst, arith}
 use Rattle.bucket.specs.Buckets.{capacity, run_cost, settled_units}
 use Rattle.bucket.specs.Due.{HoldsFrom, wait_for}
 use Rattle.bucket.proofs.Waiting.{wait_from}

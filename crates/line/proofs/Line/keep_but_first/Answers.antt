@@ -1,4 +1,4 @@
-use Rattle.std.proofs.Common.{◌≡◌, ◌<◌, ◌≤◌, length, sym, ◌∙◌, inl, inr, ⊎_elim, arith}
+use Rattle.std.proofs.Common.{◌≤◌, length, sym, ◌∙◌, inl, inr, ⊎_elim, arith}
 use Rattle.line.proofs.Taking.{taking_out, taking_keeps, taking_all}
 use Rattle.line.proofs.Line.keep_but_first.Goals as goal
 use Rattle.line.proofs.Line.keep_but_first.Goals.{then-by-owner, else-by-owner}

@@ -1,4 +1,4 @@
-use Rattle.std.proofs.Common.{◌≡◌, ◌+◌, ◌<◌, ◌≤◌, length, sym, refl, ◌∙◌, arith}
+use Rattle.std.proofs.Common.{◌≡◌, ◌<◌, ◌≤◌, length, sym, refl, ◌∙◌, arith}
 use Rattle.line.proofs.Front.{flags_none, front_out, front_stays, flags_all}
 use Rattle.line.proofs.Line.keep_unflagged.Goals as goal
 use Rattle.line.proofs.Line.keep_unflagged.Goals.{then-not-is_set, else-not-is_set}

@@ -14,7 +14,7 @@ loop-spelled-preserved c =
     let event : ◌≡◌ {A = Result (Option Spelled) StreamFault} (Ok (Some c.in-Ok-Some.spelled)) (event_from at (drop at input)) = let e = read.event in cc in
     let moved : c.next_event.new.self.position ≡ at + field_size (drop at input) = search rules in (
       read.same ∙ same,
-      gathered_more input _ _ c.loop-spelled.invariant.1 _ _ _ event moved c.in_ok-push.ensures.items,
+      gathered_more input _ _ c.loop-spelled.invariant.1 _ _ _ event moved c.in_ok-push-in-Ok-Some.ensures.items,
     )
 
 pub returns-in-Ok-None : goal.returns-in-Ok-None
