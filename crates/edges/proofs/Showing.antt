@@ -1,5 +1,5 @@
 -- Each edge, computed or shown.
-use Rattle.std.proofs.Common.{◌≡◌, ℕ, zero, suc, ◌+◌, ◌-◌, ◌*◌, ◌%◌, ◌^◌, ◌<◌, ◌≤◌, min, Bool, true, false, List, [], ◌∷◌, length, get_or, Some, sym, refl, ap, ◌∙◌, subst, arith, lit<, lit≤}
+use Rattle.std.proofs.Common.{◌≡◌, ℕ, zero, suc, ◌+◌, ◌-◌, ◌%◌, ◌^◌, ◌<◌, ◌≤◌, Bool, true, false, [], ◌∷◌, get_or, Some, refl, ap, arith, lit<}
 use Rattle.account.specs.Accounts.{sent_at, units_at}
 use Rattle.choosing.specs.Picks.{some_of}
 use Rattle.device.specs.Sweeps.{away, Nearest}

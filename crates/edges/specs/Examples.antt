@@ -1,5 +1,5 @@
 -- The rows, I/Os and runs that the edges speak of.
-use Rattle.std.specs.Prelude.{ℕ, ◌+◌, ◌≤◌, Bool, true, false, cond, eqb, List, [], ◌∷◌, replicate, Some, None, Option}
+use Rattle.std.specs.Prelude.{ℕ, ◌+◌, ◌≤◌, List, [], ◌∷◌, replicate, Some, None, Option}
 use Rattle.std.proofs.Common.{lit≤}
 use Rattle.account.specs.declared.row.Account.{Account}
 use Rattle.heads.specs.Heads.{HeadRun}

@@ -1,9 +1,9 @@
 -- Each call is a course of single steps, and so is every history.
-use Rattle.std.proofs.Common.{◌≡◌, ℕ, ◌+◌, Bool, true, false, cond, ltb, leb, List, [], ◌∷◌, ◌++◌, map, Ok, Err, Result, sym, refl, ap, ◌∙◌, subst, append_assoc, arith}
+use Rattle.std.proofs.Common.{◌≡◌, ℕ, ◌+◌, Bool, true, false, cond, ltb, leb, List, [], ◌++◌, map, Ok, Err, Result, sym, refl, ◌∙◌, subst, arith}
 use Rattle.scheduling.specs.Scheduling.{Sent, Chain, none, more, latest_at, accepted_at, ScheduleStep}
 use Rattle.scheduling.specs.declared.answer.Scheduled.{Scheduled}
 use Rattle.service.specs.Calls.{Place, pool_place, open_place, place_for}
-use Rattle.service.specs.Moments.{Moment, makes_pool, opens, arrives, ends, closes, collects, PoolStep, OpenStep, Call as ServiceCall, Answer as ServiceAnswer, Leads as ServiceLeads}
+use Rattle.service.specs.Moments.{Moment, makes_pool, opens, arrives, ends, closes, collects, Call as ServiceCall, Answer as ServiceAnswer, Leads as ServiceLeads}
 use Rattle.service.specs.Rows.{first_fit, reserves_made}
 use Rattle.service.specs.Faults.{refused}
 use Rattle.service.specs.declared.fault.ServiceFault.{ServiceFault}
@@ -16,7 +16,7 @@ use Rattle.values.specs.declared.instant.Instant.{Instant}
 use Rattle.values.specs.declared.rates.Rates.{Rates}
 use Rattle.history.specs.Calls.{Call, serves, schedules, works, Answer, Leads}
 use Rattle.history.specs.Histories.{Made, History, making, next, service_events, schedule_events, events_of, log_of}
-use Rattle.history.specs.Steps.{Event, Accepting, Sending, Accepts, Step, Course, begins, goes_on}
+use Rattle.history.specs.Steps.{Event, Accepting, Sending, Step, Course, begins, goes_on}
 
 -- a course, and then another
 pub joined : {level : ServiceRecord → ℕ} {a m n : Moment} {early late : List Event} → Course level a early m → Course level m late n → Course level a (late ++ early) n

@@ -1,15 +1,14 @@
 -- What holds at the end of every course from a making on holds at every moment of every history.
-use Rattle.std.proofs.Common.{◌≡◌, ℕ, List, [], ◌∷◌, ◌++◌, Ok, sym, refl, ap, ◌∙◌, subst, arith}
+use Rattle.std.proofs.Common.{◌≡◌, ℕ, List, [], ◌∷◌, ◌++◌, Ok, sym, refl, subst, arith}
 use Rattle.scheduling.proofs.Sounding.{sends_stay_sound_lem}
 use Rattle.service.proofs.Lasting.{stays_sound}
-use Rattle.service.specs.Calls.{new_tables}
 use Rattle.service.specs.Moments.{Moment, makes_pool, opens, arrives, ends, closes, collects}
 use Rattle.service.specs.Sound.{Numbers}
 use Rattle.service.specs.declared.rows.Tables.{Tables}
 use Rattle.usage.specs.declared.ServiceRecord.{ServiceRecord}
 use Rattle.values.specs.declared.instant.Instant.{Instant}
-use Rattle.history.proofs.Courses.{course_of, joined}
-use Rattle.history.specs.Histories.{Starts, Made, History, Law, Keeps, EveryHistoryKeeps, log_of}
+use Rattle.history.proofs.Courses.{course_of}
+use Rattle.history.specs.Histories.{Starts, Law, EveryHistoryKeeps}
 use Rattle.history.specs.Laws.{HistoryLaws, PartsAtMoments}
 use Rattle.history.specs.Steps.{Event, Accepting, Making, Opening, Arriving, Sending, Working, Collecting, Ending, Closing, Step, Course, begins, goes_on, AtEvery}
 

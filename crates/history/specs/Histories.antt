@@ -1,6 +1,6 @@
 -- Whole runs: any sequence of calls from the making on, each with its answer, refused ones among them.
 use Rattle.std.specs.Prelude.{◌≡◌, ℕ, List, [], ◌∷◌, ◌++◌, map, Ok, Err, Result}
-use Rattle.scheduling.specs.Scheduling.{Sent, ScheduleStep}
+use Rattle.scheduling.specs.Scheduling.{ScheduleStep}
 use Rattle.scheduling.specs.declared.answer.Scheduled.{Scheduled}
 use Rattle.service.specs.Calls.{new_tables}
 use Rattle.service.specs.Moments.{Moment, makes_pool, opens, arrives, ends, closes, collects, Call as ServiceCall, Answer as ServiceAnswer}

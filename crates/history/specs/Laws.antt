@@ -1,9 +1,8 @@
 -- What holds of every history by itself: it is the course of single steps that its log tells, with a moment wherever the log is
 -- parted, and its tables are sound throughout.
-use Rattle.std.specs.Prelude.{◌≡◌, ℕ, List, ◌++◌}
+use Rattle.std.specs.Prelude.{◌≡◌, List, ◌++◌}
 use Rattle.service.specs.Moments.{Moment}
 use Rattle.service.specs.Sound.{Numbers}
-use Rattle.usage.specs.declared.ServiceRecord.{ServiceRecord}
 use Rattle.history.specs.Histories.{Law, EveryHistoryKeeps}
 use Rattle.history.specs.Steps.{Event, Course}
 

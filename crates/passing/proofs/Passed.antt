@@ -13,7 +13,7 @@ use Rattle.passing.proofs.Marks.{late_trans, earlier_cases, earlier_first, earli
 use Rattle.passing.specs.Law.{is_due, mark_of_pool}
 use Rattle.scheduling.specs.Sending.{head_at, free_to_go, most_runs, Sends}
 use Rattle.service.specs.Moments.{Moment}
-use Rattle.service.specs.Rows.{session, pool, is_present}
+use Rattle.service.specs.Rows.{session, is_present}
 use Rattle.service.specs.Sound.{Present}
 use Rattle.service.specs.declared.rows.Session.{Session}
 use Rattle.service.specs.declared.rows.Tables.{Tables}

@@ -1,7 +1,6 @@
 -- Send after send: what the loop keeps.
-use Rattle.std.proofs.Common.{◌≡◌, ℕ, ◌+◌, ◌-◌, ◌<◌, ◌≤◌, min, Bool, true, false, cond, List, [], ◌∷◌, ◌++◌, length, sum_by, Option, sym, refl, ap, ◌∙◌, subst, arith}
+use Rattle.std.proofs.Common.{◌≡◌, ℕ, ◌+◌, min, Bool, cond, List, [], ◌∷◌, ◌++◌, length, sum_by, sym, refl, ap, ◌∙◌, arith}
 use Rattle.device.specs.Meaning.{Meaning, Same, held_by, Put}
-use Rattle.heads.specs.declared.head.Head.{Head}
 use Rattle.service.specs.Moments.{Moment}
 use Rattle.service.specs.Sound.{Numbers}
 use Rattle.std.proofs.lemmas.List.{length-append}
@@ -10,9 +9,9 @@ use Rattle.usage.specs.declared.ServiceRecord.{ServiceRecord}
 use Rattle.values.specs.declared.io.Io.{Io}
 use Rattle.values.specs.declared.io.Run.{Run}
 use Rattle.scheduling.proofs.Sounding.{sends_stay_sound_lem}
-use Rattle.scheduling.specs.Exact.{HeadsRight, PastKept, OneSent, SentSoFar}
+use Rattle.scheduling.specs.Exact.{PastKept, OneSent, SentSoFar}
 use Rattle.scheduling.specs.Scheduling.{none, more}
-use Rattle.scheduling.specs.Sending.{most_runs, Sends}
+use Rattle.scheduling.specs.Sending.{most_runs}
 
 -- collections that are the same have as many elements
 count_is : {X : Type 0} (xs : List X) → sum_by (λ x. 1) xs ≡ length xs
@@ -61,6 +60,10 @@ module _ {D : Type 0} (puts : D → Run → D → Type 0) (level : ServiceRecord
 
     pub still_sound : Numbers n.tables → Numbers o.tables
     still_sound f = sends_stay_sound_lem.sending level n o one.choice one.run one.sends f
+
+-- the same under another name for the count of due sends
+pub as_counted : {D : Type 0} {puts : D → Run → D → Type 0} {level : ServiceRecord → ℕ} {m n : Moment} {d e : D} {sent due due' : ℕ} → SentSoFar puts level m n d e sent due → due ≡ due' → SentSoFar puts level m n d e sent due'
+as_counted s is = record { sends = s.sends; chain = s.chain; sent_is = s.sent_is; due_is = sym is ∙ s.due_is; in_order = s.in_order }
 
 pub past_twice : (xs ys zs : List Io) → PastKept xs ys → PastKept ys zs → PastKept xs zs
 past_twice xs ys zs p q = (q.0 ∙ p.0, q.1 ∙ p.1)

@@ -1,5 +1,5 @@
 -- What the choice of a send says of the session chosen and of its head run.
-use Rattle.std.proofs.Common.{◌≡◌, ℕ, ◌+◌, ◌<◌, ◌≤◌, Bool, true, false, cond, ◌&&◌, ltb, leb, List, [], ◌∷◌, Some, None, MatchBool, Option, sym, refl, ap, ◌∙◌, subst, arith}
+use Rattle.std.proofs.Common.{◌≡◌, ℕ, ◌<◌, ◌≤◌, Bool, true, false, cond, ◌&&◌, ltb, leb, List, [], ◌∷◌, Some, None, MatchBool, Option, sym, ap, subst, arith}
 use Rattle.choosing.proofs.Passing.{never, there, one, passed}
 use Rattle.choosing.proofs.Rightly.{is_right, sendable}
 use Rattle.choosing.specs.Chosen.{chosen}

@@ -1,21 +1,19 @@
 -- One send from the session that goes next, and the head runs that it leaves.
-use Rattle.std.proofs.Common.{◌≡◌, ℕ, ◌+◌, ◌-◌, ◌<◌, ◌≤◌, min, Bool, true, false, cond, eqb, ltb, ◌≢◌, List, [], ◌∷◌, ◌++◌, length, get_or, take, drop, set, is_some, Some, None, Option, sym, refl, ap, ◌∙◌, subst, ⊎_elim, arith}
+use Rattle.std.proofs.Common.{◌≡◌, ℕ, ◌+◌, ◌-◌, ◌<◌, ◌≤◌, Bool, true, false, cond, ltb, ◌≢◌, List, ◌++◌, length, get_or, drop, set, is_some, Some, None, Option, sym, refl, ap, ◌∙◌, subst, ⊎_elim, arith}
 use mathlib.Core.HLevel.{⊥_prop}
 use mathlib.Core.Logic.{∥∥₁_elim}
 use Rattle.choosing.proofs.Lawful.{choice_laws}
-use Rattle.choosing.proofs.Passing.{never}
 use Rattle.choosing.specs.Chosen.{chosen}
-use Rattle.choosing.specs.Free.{run_at, usable_head, has_head}
-use Rattle.choosing.specs.Right.{CanSend}
+use Rattle.choosing.specs.Free.{run_at, usable_head}
 use Rattle.choosing.specs.declared.choose.Choice.{Choice}
 use Rattle.device.specs.Meaning.{Meaning, held_by, Put}
-use Rattle.heads.specs.Heads.{HeadRun, head_says, head_for, head_of, of_session, grown}
+use Rattle.heads.specs.Heads.{HeadRun, head_says, head_for, head_of, grown}
 use Rattle.heads.specs.declared.head.Head.{Head}
 use Rattle.line.specs.Line.{Closed, records_of, without}
 use Rattle.service.proofs.Facts.{counts_in}
 use Rattle.service.specs.Moments.{Moment, moment_of}
-use Rattle.service.specs.Rows.{session, pool, blank_session, is_present, unsent_in}
-use Rattle.service.specs.Sound.{Sound, Numbers}
+use Rattle.service.specs.Rows.{session, blank_session, is_present}
+use Rattle.service.specs.Sound.{Numbers}
 use Rattle.service.specs.declared.rows.Session.{Session}
 use Rattle.service.specs.declared.rows.Tables.{Tables}
 use Rattle.std.proofs.lemmas.List.{get_or-set_same, get_or-set_other, take_all, length-take, length-append, length-drop, drop_at, drop-drop, get_or_default}
@@ -24,9 +22,9 @@ use Rattle.std.specs.Option.{option_map}
 use Rattle.usage.specs.declared.ServiceRecord.{ServiceRecord}
 use Rattle.values.specs.declared.io.Io.{Io}
 use Rattle.values.specs.declared.io.Run.{Run}
-use Rattle.scheduling.proofs.Choosing.{Usable, usable_is, head_present}
+use Rattle.scheduling.proofs.Choosing.{head_present}
 use Rattle.scheduling.proofs.Lines.{without_else, without_most}
-use Rattle.scheduling.specs.Exact.{HeadsRight, PastKept, OneSent, NextSent}
+use Rattle.scheduling.specs.Exact.{HeadsRight, PastKept}
 use Rattle.scheduling.specs.Sending.{SentAs, head_at, most_runs, next_choice, owner_of, present_name, sent_line, sent_row, sent_tables, used_of, Sends}
 
 -- ---- the choice by the head runs that were found

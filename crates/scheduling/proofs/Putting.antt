@@ -1,5 +1,5 @@
 -- A put where there is room.
-use Rattle.std.proofs.Common.{◌≡◌, ℕ, ◌<◌, ◌≤◌, Bool, true, false, MatchBool, refl, arith}
+use Rattle.std.proofs.Common.{◌<◌, ◌≤◌, Bool, true, false, MatchBool, arith}
 use Rattle.device.specs.Meaning.{Meaning, held_by, Put}
 use Rattle.values.specs.declared.io.Run.{Run}
 

@@ -1,31 +1,30 @@
 -- Sound tables stay sound: an instant accepted, a single send, a whole scheduling call.
-use Rattle.std.proofs.Common.{◌≡◌, ℕ, ◌+◌, ◌-◌, ◌<◌, ◌≤◌, Bool, true, false, ◌&&◌, eqb, ltb, leb, ◌≢◌, ◌⊎◌, List, [], ◌∷◌, length, get_or, set, Ok, Err, sum_by, Result, sym, refl, ap, ◌∙◌, subst, inl, inr, ⊎_elim, arith, length-set}
+use Rattle.std.proofs.Common.{◌≡◌, ℕ, ◌<◌, ◌≤◌, Bool, true, leb, ◌≢◌, List, length, Ok, Err, sum_by, Result, sym, refl, ap, ◌∙◌, subst, arith, length-set}
 use mathlib.Core.Logic.{∥∥₁_map}
 use Rattle.account.proofs.Holding.{account_laws}
 use Rattle.account.specs.Accounts.{is_sound, sent_at}
 use Rattle.account.specs.declared.row.Account.{Account}
 use Rattle.choosing.specs.declared.choose.Choice.{Choice}
-use Rattle.heads.specs.Heads.{HeadRun}
 use Rattle.service.proofs.Facts.{counts_are, counts_in}
 use Rattle.service.proofs.Sounding.{below_more, apart_more, fits_later}
 use Rattle.service.proofs.Tables.{each_set}
 use Rattle.service.specs.Moments.{Moment}
 use Rattle.service.specs.Rows.{session, pool, blank_session, blank_pool, is_present, counts_fit, pool_reserve, reserves_in, reserves_made, takes_of}
-use Rattle.service.specs.Sound.{Sound, Numbers, Present, Made, account_fits, name_at, session_number, pool_number}
+use Rattle.service.specs.Sound.{Sound, Numbers, Present, Made, account_fits, session_number, pool_number}
 use Rattle.service.specs.declared.fault.ServiceFault.{ServiceFault}
 use Rattle.service.specs.declared.rows.Pool.{Pool}
 use Rattle.service.specs.declared.rows.Session.{Session}
 use Rattle.service.specs.declared.rows.Tables.{Tables}
 use Rattle.std.proofs.lemmas.List.{get_or-set_same, get_or-set_other}
 use Rattle.std.proofs.lemmas.List.Sums.{sum_by-set}
-use Rattle.std.proofs.lemmas.Bool.{and_parts, and_from, le-leb, leb-true, ltb-false}
+use Rattle.std.proofs.lemmas.Bool.{and_parts, and_from, le-leb, ltb-false}
 use Rattle.usage.specs.declared.ServiceRecord.{ServiceRecord}
 use Rattle.values.specs.declared.io.Run.{Run}
 use Rattle.scheduling.proofs.Choosing.{can_send, usable_is, head_present, head_some}
 use Rattle.scheduling.proofs.Tables.{each_row, same_part, take_sum}
 use Rattle.scheduling.specs.declared.answer.Scheduled.{Scheduled}
 use Rattle.scheduling.specs.Laws.{SendsStaySound}
-use Rattle.scheduling.specs.Scheduling.{Sent, Chain, none, more, latest_at, accepted_at, ScheduleStep}
+use Rattle.scheduling.specs.Scheduling.{Sent, Chain, none, more, latest_at, ScheduleStep}
 use Rattle.scheduling.specs.Sending.{head_at, sent_row, sent_pool, sent_tables, used_of, Sends}
 
 -- ---- an instant is accepted

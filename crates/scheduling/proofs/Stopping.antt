@@ -1,15 +1,13 @@
 -- Where the sends of a call stop.
-use Rattle.std.proofs.Common.{◌≡◌, ℕ, ◌<◌, ◌≤◌, Bool, true, false, cond, ltb, ◌⊎◌, Some, None, Option, sym, refl, ap, ◌∙◌, subst, inl, inr, ⊎_elim, arith}
-use Rattle.choosing.proofs.Passing.{never}
-use Rattle.choosing.proofs.Rightly.{is_right, sendable}
+use Rattle.std.proofs.Common.{◌≡◌, ℕ, ◌<◌, ◌≤◌, Bool, true, false, cond, ltb, ◌⊎◌, Some, None, Option, sym, refl, inl, inr}
+use Rattle.choosing.proofs.Rightly.{is_right}
 use Rattle.choosing.specs.Chosen.{chosen}
-use Rattle.choosing.specs.Right.{Free, RightChoice}
 use Rattle.choosing.specs.declared.choose.Choice.{Choice}
 use Rattle.device.specs.Meaning.{held_by}
 use Rattle.service.specs.Moments.{Moment}
-use Rattle.std.proofs.lemmas.Bool.{cases_Bool, ltb-false, cond-false, le-ltb}
+use Rattle.std.proofs.lemmas.Bool.{ltb-false, cond-false, le-ltb}
 use Rattle.usage.specs.declared.ServiceRecord.{ServiceRecord}
-use Rattle.scheduling.proofs.Choosing.{seen_at, right_choice, free_choice}
+use Rattle.scheduling.proofs.Choosing.{seen_at, free_choice}
 use Rattle.scheduling.specs.Laws.{StopsRightly}
 use Rattle.scheduling.specs.Sending.{free_to_go, head_at, most_runs, next_choice}
 

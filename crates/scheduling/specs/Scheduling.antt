@@ -1,5 +1,5 @@
 -- The scheduling call: single sends, one after the other, until none can go.
-use Rattle.std.specs.Prelude.{◌≡◌, ℕ, ◌+◌, Bool, true, false, cond, ltb, List, [], ◌∷◌, length, None, Ok, Err, Result, nat_lt}
+use Rattle.std.specs.Prelude.{◌≡◌, ℕ, ◌+◌, true, false, cond, List, [], ◌∷◌, length, None, Ok, Err, Result, nat_lt}
 use Rattle.choosing.specs.Wake.{wake_at}
 use Rattle.choosing.specs.declared.choose.Choice.{Choice}
 use Rattle.service.specs.Faults.{refused}
@@ -48,7 +48,7 @@ due_in (s ∷ sends) = cond s.choice.due 1 0 + due_in sends
 -- An accepted scheduling call: its instant is accepted, then come its single sends until the device holds its most or no session is
 -- free to go; it answers how many there were, how many of them due, and the wake-up after the last.
 pub record Schedules (level : ServiceRecord → ℕ) (micros : ℕ) (answer : Scheduled) (m n : Moment) : Type 0 where
-  pub lawful : ltb micros m.tables.latest ≡ false
+  pub lawful : nat_lt micros m.tables.latest ≡ false
   pub sends : List Sent
   pub chain : Chain level (accepted_at micros m) sends n
   pub over : next_choice level n ≡ None

@@ -31,12 +31,12 @@ pub(crate) fn send_all<R: SharingRule, D: Device>(
 ) -> Counts
     requires numbers { Numbers tables.old }
     requires latest { tables.old.latest ≡ present.micros }
-    requires found { HeadsRight (moment_of tables.old waiting.old.places.now waiting.old.len (means device.old)) heads.old }
-    ensures sent { SentSoFar puts (level rule.now) (moment_of tables.old waiting.old.places.now waiting.old.len (means device.old)) (moment_of tables.new waiting.new.places.now waiting.new.len (means device.new)) device.old device.new result.sent result.due }
-    ensures over { next_choice (level rule.now) (moment_of tables.new waiting.new.places.now waiting.new.len (means device.new)) ≡ None }
+    requires found { HeadsRight (moment_of tables.old waiting.old.places.now waiting.old.len (D.means device.old)) heads.old }
+    ensures sent { SentSoFar D.puts (R.level rule.now) (moment_of tables.old waiting.old.places.now waiting.old.len (D.means device.old)) (moment_of tables.new waiting.new.places.now waiting.new.len (D.means device.new)) device.old device.new result.sent result.due }
+    ensures over { next_choice (R.level rule.now) (moment_of tables.new waiting.new.places.now waiting.new.len (D.means device.new)) ≡ None }
     ensures numbers { Numbers tables.new }
     ensures latest { tables.new.latest ≡ present.micros }
-    ensures found { HeadsRight (moment_of tables.new waiting.new.places.now waiting.new.len (means device.new)) heads.new }
+    ensures found { HeadsRight (moment_of tables.new waiting.new.places.now waiting.new.len (D.means device.new)) heads.new }
     ensures same { waiting.new.places.ghost_name ≡ waiting.old.places.ghost_name }
     ensures past { PastKept waiting.old.places.now waiting.new.places.now }
 {

@@ -39,11 +39,11 @@ fn send_head<D: Device>(
     requires shared { is_sound (pool tables.old (session tables.old choice.place).pool).account ≡ true }
     requires enough { head.count ≤ (session tables.old choice.place).unsent }
     requires few { (session tables.old choice.place).inside + head.count ≤ 4000000000 }
-    requires room { held_by (means device.old) < (means device.old).depth }
+    requires room { held_by (D.means device.old) < (D.means device.old).depth }
     ensures tables { tables.new ≡ sent_tables tables.old choice.place choice.due head.count }
     ensures same { waiting.new.places.ghost_name ≡ waiting.old.places.ghost_name }
     ensures line { Closed (without owner_of (session tables.old choice.place).name head.count (used_of (records_of waiting.old.places.now waiting.old.len))) waiting.old.places.now waiting.new.places.now waiting.new.len }
-    ensures put { (run : Run) × SentAs (session tables.old choice.place) (head_says head) run × Put (means device.old) run (means device.new) × puts device.old run device.new }
+    ensures put { (run : Run) × SentAs (session tables.old choice.place) (head_says head) run × Put (D.means device.old) run (D.means device.new) × D.puts device.old run device.new }
 {
     let row = tables.sessions[choice.place];
     let run = run_of(&row, head);
@@ -64,10 +64,10 @@ pub(crate) fn send_next<R: SharingRule, D: Device>(
 ) -> Option<bool>
     requires numbers { Numbers tables.old }
     requires latest { tables.old.latest ≡ present.micros }
-    requires found { HeadsRight (moment_of tables.old waiting.old.places.now waiting.old.len (means device.old)) heads.old }
-    requires room { held_by (means device.old) < most_runs (moment_of tables.old waiting.old.places.now waiting.old.len (means device.old)) }
-    ensures sent { NextSent puts (level rule.now) result (moment_of tables.old waiting.old.places.now waiting.old.len (means device.old)) (moment_of tables.new waiting.new.places.now waiting.new.len (means device.new)) device.old device.new }
-    ensures found { HeadsRight (moment_of tables.new waiting.new.places.now waiting.new.len (means device.new)) heads.new }
+    requires found { HeadsRight (moment_of tables.old waiting.old.places.now waiting.old.len (D.means device.old)) heads.old }
+    requires room { held_by (D.means device.old) < most_runs (moment_of tables.old waiting.old.places.now waiting.old.len (D.means device.old)) }
+    ensures sent { NextSent D.puts (R.level rule.now) result (moment_of tables.old waiting.old.places.now waiting.old.len (D.means device.old)) (moment_of tables.new waiting.new.places.now waiting.new.len (D.means device.new)) device.old device.new }
+    ensures found { HeadsRight (moment_of tables.new waiting.new.places.now waiting.new.len (D.means device.new)) heads.new }
     ensures same { waiting.new.places.ghost_name ≡ waiting.old.places.ghost_name }
     ensures past { PastKept waiting.old.places.now waiting.new.places.now }
 {

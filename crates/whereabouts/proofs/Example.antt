@@ -1,13 +1,12 @@
 -- Each call of the story, done.
-use Rattle.std.proofs.Common.{◌≡◌, ℕ, Bool, true, false, List, [], ◌∷◌, map, None, Ok, refl, arith, lit<, lit≤}
+use Rattle.std.proofs.Common.{false, List, [], ◌∷◌, None, Ok, refl, arith, lit<}
 use Rattle.choosing.specs.Picks.{some_of}
 use Rattle.device.specs.Meaning.{Meaning}
-use Rattle.heads.specs.Heads.{HeadRun}
 use Rattle.history.specs.Calls.{Leads, serves, schedules, works}
-use Rattle.history.specs.Histories.{Starts, Made, History, making, next}
-use Rattle.scheduling.specs.Scheduling.{Chain, none, more, accepted_at}
+use Rattle.history.specs.Histories.{History, making, next}
+use Rattle.scheduling.specs.Scheduling.{none, more, accepted_at}
 use Rattle.scheduling.specs.Sending.{Sends, sent_tables, sent_line}
-use Rattle.service.specs.Calls.{new_tables, pool_made, session_opened, arrived, hand_back, ended, closed}
+use Rattle.service.specs.Calls.{new_tables, pool_made, session_opened, hand_back, ended, closed}
 use Rattle.service.specs.Moments.{Moment, with_tables, arrived_moment, makes_pool, opens, arrives, ends, closes, collects}
 use Rattle.service.specs.declared.rows.Tables.{Tables}
 use Rattle.sharing.specs.Levels.{even_level}

@@ -1,5 +1,5 @@
 -- What the place that an accepted call found says.
-use Rattle.std.proofs.Common.{◌≡◌, ℕ, zero, suc, ◌+◌, ◌<◌, ◌≤◌, min, Bool, true, false, cond, ◌&&◌, eqb, ltb, leb, List, [], ◌∷◌, length, get_or, Some, None, Ok, Err, Option, sym, refl, ap, ◌∙◌, subst, arith}
+use Rattle.std.proofs.Common.{◌≡◌, ℕ, zero, suc, ◌+◌, ◌<◌, ◌≤◌, Bool, true, false, cond, eqb, ltb, leb, List, [], ◌∷◌, length, get_or, Some, None, Ok, Err, Option, refl, subst, arith}
 use Rattle.service.proofs.Finding.{found_within, found_fits}
 use Rattle.service.specs.Calls.{Place, place_for, open_place, arrival_at, arrival_place, close_at, close_place}
 use Rattle.service.specs.Faults.{refused}
@@ -15,7 +15,7 @@ use Rattle.service.specs.declared.rows.Tables.{Tables}
 use Rattle.std.proofs.lemmas.Bool.{and_parts, and_from, both_ways, ltb-false}
 use Rattle.values.specs.declared.io.Io.{Io}
 use Rattle.values.specs.declared.rates.Rates.{Rates}
-use Rattle.whereabouts.proofs.Sums.{Stands, named}
+use Rattle.whereabouts.proofs.Sums.{Stands}
 
 -- what is accepted was not refused
 not_refused : (b : Bool) (fault : ServiceFault) (o : Place) (i : ℕ) → cond b (Err fault) o ≡ Ok i → (b ≡ false) × (o ≡ Ok i)

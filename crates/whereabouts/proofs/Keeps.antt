@@ -1,8 +1,7 @@
 -- From step to step, and so over whole runs.
-use Rattle.std.proofs.Common.{◌≡◌, ℕ, zero, suc, ◌+◌, ◌-◌, ◌<◌, ◌≤◌, min, Bool, true, false, cond, ◌&&◌, eqb, ltb, leb, List, [], ◌∷◌, ◌++◌, length, get_or, take, drop, set, replicate, Some, None, Ok, sum_by, Option, sym, refl, ap, ◌∙◌, subst, ⊎_elim, arith}
-use Rattle.choosing.specs.Free.{usable_head}
+use Rattle.std.proofs.Common.{◌≡◌, ℕ, zero, suc, ◌+◌, ◌-◌, ◌<◌, ◌≤◌, min, true, false, cond, ◌&&◌, eqb, ltb, leb, List, [], ◌∷◌, ◌++◌, length, get_or, drop, set, replicate, Some, None, Ok, sum_by, Option, sym, refl, ap, ◌∙◌, subst, ⊎_elim, arith}
 use Rattle.device.specs.Meaning.{Meaning, Same, Put, Worked, Took}
-use Rattle.heads.specs.Heads.{HeadRun, of_session, head_of}
+use Rattle.heads.specs.Heads.{of_session, head_of}
 use Rattle.history.proofs.Running.{every_history}
 use Rattle.history.specs.Histories.{Starts}
 use Rattle.history.specs.Logs.{arrivals_in, backs_in}
@@ -10,11 +9,10 @@ use Rattle.history.specs.Steps.{Event, Collects, Accepting, Making, Opening, Arr
 use Rattle.choosing.specs.declared.choose.Choice.{Choice}
 use Rattle.line.specs.Line.{without}
 use Rattle.scheduling.proofs.Choosing.{head_present, usable_is}
-use Rattle.scheduling.specs.Scheduling.{Sent}
-use Rattle.scheduling.specs.Sending.{head_at, used_of, owner_of, sent_row, sent_tables, sent_line, Sends}
-use Rattle.service.specs.Calls.{open_place, arrival_place, close_place, new_tables, opened_row, accepted_row, ended_row, handed_row, hand_back, hand_back_at, with_sessions}
+use Rattle.scheduling.specs.Sending.{head_at, used_of, owner_of, sent_row, sent_line, Sends}
+use Rattle.service.specs.Calls.{open_place, arrival_place, close_place, opened_row, accepted_row, ended_row, handed_row, hand_back, hand_back_at, with_sessions}
 use Rattle.service.specs.Moments.{Moment, full_at, arrived_moment}
-use Rattle.service.specs.Rows.{session, blank_session, free_place, fits, first_fit, is_present}
+use Rattle.service.specs.Rows.{session, blank_session, free_place, first_fit, is_present}
 use Rattle.service.specs.declared.find.Wanted.TheVariants.{PresentAs, OpenAs}
 use Rattle.service.specs.declared.rows.HandedBack.{HandedBack}
 use Rattle.service.specs.declared.rows.Session.{Session}
@@ -32,8 +30,8 @@ use Rattle.values.specs.declared.rates.Rates.{Rates}
 use Rattle.whereabouts.proofs.Finding.{none_found, open_stands, present_stands, opened_at, arrived_at, closed_at}
 use Rattle.whereabouts.proofs.Kept.{OwnMade, Kept, start_keeps, same_keeps, open_keeps, end_keeps, close_keeps, arrive_keeps, send_keeps, its_session, enough_inside, return_keeps, my_accepts, my_waits, my_holds}
 use Rattle.whereabouts.proofs.Lines.{times_counted}
-use Rattle.whereabouts.proofs.Sums.{Stands, named, at, one, none_at, somewhere}
-use Rattle.whereabouts.specs.Law.{StandsAt, RowTells, MadeFor, Whereabouts, SessionLaw, AllFound, WhereaboutsLaw, AlwaysFound, SessionAlwaysFound}
+use Rattle.whereabouts.proofs.Sums.{Stands, at, one, none_at, somewhere}
+use Rattle.whereabouts.specs.Law.{StandsAt, MadeFor, Whereabouts, SessionLaw, AllFound, WhereaboutsLaw, AlwaysFound, SessionAlwaysFound}
 use Rattle.whereabouts.specs.Places.{accepted, accepted_of, AnsweredRightly, has_number, held_in, handed_back, times_waiting, times_inside, times_back, MadeOf, count_for}
 
 -- ---- what a device has inside, after each of its calls

@@ -1,20 +1,17 @@
 -- What every step keeps, over plain lists: what each session had accepted, what was handed back, the rows, the line, and what is inside.
-use Rattle.std.proofs.Common.{◌≡◌, ℕ, ◌+◌, ◌-◌, ◌<◌, ◌≤◌, Bool, true, false, cond, ◌&&◌, eqb, ltb, leb, List, [], ◌∷◌, ◌++◌, length, get_or, take, drop, set, Some, sum_by, sym, refl, ap, ◌∙◌, subst, ⊎_elim, arith}
-use Rattle.account.specs.declared.row.Account.{Account}
+use Rattle.std.proofs.Common.{◌≡◌, ℕ, ◌+◌, ◌-◌, ◌<◌, ◌≤◌, Bool, true, false, cond, ◌&&◌, eqb, ltb, leb, List, [], ◌∷◌, ◌++◌, length, get_or, take, drop, set, Some, sum_by, sym, refl, ap, ◌∙◌, subst, arith}
 use Rattle.device.specs.Meaning.{Same}
 use Rattle.heads.specs.Heads.{HeadRun, of_session, head_of}
 use Rattle.line.specs.Line.{without}
 use Rattle.scheduling.specs.Sending.{owner_of, SentAs}
-use Rattle.service.specs.Rows.{blank_session, fits, is_present}
-use Rattle.service.specs.Calls.{accepted_row, ended_row, handed_row}
+use Rattle.service.specs.Rows.{blank_session, is_present}
 use Rattle.service.specs.declared.rows.Session.{Session}
-use Rattle.service.specs.declared.rows.State.{State}
 use Rattle.std.specs.List.{AllByRecursion as All}
 use Rattle.std.proofs.lemmas.List.{length-append, append_assoc, append-nil, take-append-drop, take_at, drop_at, take-append-le, drop-append-le, length-take, length-drop}
 use Rattle.std.proofs.ByRecursion.{All-weaker}
 use Rattle.std.proofs.lemmas.List.Sums.{sum_by-cons, sum_by-set}
 use Rattle.std.proofs.lemmas.Bool.Decides.{nat_tests}
-use Rattle.std.proofs.lemmas.Bool.{and_parts, eqb-true, eq-eqb, ne_eqb}
+use Rattle.std.proofs.lemmas.Bool.{eq-eqb, ne_eqb}
 use Rattle.values.specs.declared.io.Io.{Io}
 use Rattle.values.specs.declared.io.Run.{Run}
 use Rattle.values.specs.Direction.{direction_number}
@@ -22,7 +19,7 @@ use Rattle.whereabouts.specs.Places.{has_number, MakeUp, MadeOf, count_for}
 use Rattle.scheduling.proofs.Lines.{without_own, without_else, without_most}
 use Rattle.whereabouts.proofs.Lines.{of_push}
 use Rattle.whereabouts.proofs.Runs.{head_made}
-use Rattle.whereabouts.proofs.Sums.{split, named, Stands, weight, at, one, at_cons, weight_named, weight_other, none_at, only_at, somewhere, name_of, named_other, set_here, set_other, Said, says, all_same}
+use Rattle.whereabouts.proofs.Sums.{split, named, Stands, weight, at, one, at_cons, weight_named, weight_other, none_at, only_at, somewhere, name_of, named_other, set_here, set_other, Said, all_same}
 
 -- a run is made of I/Os that its session had accepted
 abbrev pub OwnMade : (ℕ → List Io) → Run → Type 0

@@ -1,5 +1,5 @@
 -- A head run is made up of the first I/Os that wait.
-use Rattle.std.proofs.Common.{◌≡◌, ℕ, zero, suc, ◌+◌, ◌-◌, ◌≤◌, Bool, true, false, cond, ◌&&◌, eqb, leb, List, [], ◌∷◌, ◌++◌, length, take, Some, None, sum_by, sym, refl, ap, ◌∙◌, subst, arith, length-take}
+use Rattle.std.proofs.Common.{◌≡◌, ℕ, suc, ◌+◌, ◌≤◌, Bool, true, false, cond, eqb, leb, List, [], ◌∷◌, length, take, Some, sum_by, sym, refl, ap, ◌∙◌, subst, arith, length-take}
 use Rattle.choosing.proofs.Passing.{never, one}
 use Rattle.heads.specs.Heads.{HeadRun, joins, alone, longer, grow, grown}
 use Rattle.std.proofs.lemmas.List.Sums.{sum_by-cons}

@@ -1,7 +1,6 @@
 -- A history that leads through all three places, so that the law is not an empty one.
-use Rattle.std.specs.Prelude.{◌≡◌, ℕ, ◌+◌, ◌≤◌, Bool, true, false, List, [], ◌∷◌, map, Some, None, Ok, Err, refl}
+use Rattle.std.specs.Prelude.{◌≡◌, ℕ, ◌+◌, ◌≤◌, false, List, [], ◌∷◌, map, None, Ok, refl}
 use Rattle.std.proofs.Common.{lit≤}
-use Rattle.device.specs.Meaning.{Meaning}
 use Rattle.history.specs.Calls.{serves, schedules, works}
 use Rattle.history.specs.Histories.{Starts, Made, History, log_of}
 use Rattle.history.specs.Logs.{sends_in, backs_in}

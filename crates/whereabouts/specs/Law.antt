@@ -8,7 +8,7 @@ use Rattle.service.specs.Moments.{Moment}
 use Rattle.service.specs.Rows.{session, fits}
 use Rattle.service.specs.declared.find.Wanted.TheVariants.{PresentAs}
 use Rattle.service.specs.declared.rows.Session.{Session}
-use Rattle.std.specs.List.{AllByRecursion as All}
+use Rattle.std.specs.List.{AllByRecursion}
 use Rattle.values.specs.declared.io.Run.{Run}
 use Rattle.whereabouts.specs.Places.{accepted, AnsweredRightly, times_waiting, times_inside, times_back, held_in, handed_back, MadeOf, count_for}
 
@@ -24,7 +24,7 @@ pub record RowTells (log : List Event) (m : Moment) (name : ℕ) (r : Session) :
 
 -- the runs of a session among some runs are made up of its accepted I/Os
 abbrev pub MadeFor : List Event → ℕ → List Run → Type 0
-MadeFor log name runs = All (λ run. run.session ≡ name → MadeOf (accepted log name) run) runs
+MadeFor log name runs = AllByRecursion (λ run. run.session ≡ name → MadeOf (accepted log name) run) runs
 
 -- The I/Os of one session, present, closed or never opened.
 pub record Whereabouts (name : ℕ) (log : List Event) (m : Moment) : Type 0 where
@@ -49,7 +49,7 @@ SessionLaw name level start log m = Whereabouts name log m
 -- and of all of them; beside that, no collected run was foreign
 pub record AllFound (log : List Event) (m : Moment) : Type 0 where
   pub each : (name : ℕ) → Whereabouts name log m
-  pub none_foreign : All (λ b. b.foreign ≡ false) (backs_in log)
+  pub none_foreign : AllByRecursion (λ b. b.foreign ≡ false) (backs_in log)
 
 abbrev pub WhereaboutsLaw : Law
 WhereaboutsLaw level start log m = AllFound log m

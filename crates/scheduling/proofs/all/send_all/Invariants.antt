@@ -15,7 +15,7 @@ invariant-loop-present g l =
     × HeadsRight (moment_of l.tables l.waiting.places.now l.waiting.len (g.D.Device.means l.device)) l.heads
     × (l.most ≡ most_runs (moment_of l.tables l.waiting.places.now l.waiting.len (g.D.Device.means l.device)))
     × ((l.sent ≤ held_by (g.D.Device.means l.device)) × (l.due ≤ l.sent))
-    × (l.waiting.places.name ≡ l.initial.waiting.places.name)
+    × (l.waiting.places.ghost_name ≡ l.initial.waiting.places.ghost_name)
     × PastKept l.initial.waiting.places.now l.waiting.places.now
 
 abbrev pub decreases-loop-present : goal.decreases-loop-present

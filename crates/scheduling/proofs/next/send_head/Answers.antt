@@ -1,4 +1,4 @@
-use Rattle.std.proofs.Common.{take, subst, rules}
+use Rattle.std.proofs.Common.{subst, rules}
 use Rattle.line.specs.Line.{Closed, without}
 use Rattle.scheduling.proofs.Fronts.{front_of_front}
 use Rattle.scheduling.proofs.Putting.{put_done}

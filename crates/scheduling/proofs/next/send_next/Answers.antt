@@ -1,4 +1,4 @@
-use Rattle.std.proofs.Common.{◌≡◌, ◌<◌, ◌≤◌, length, Some, sym, refl, ap, ◌∙◌, subst, arith, rules}
+use Rattle.std.proofs.Common.{◌≡◌, Some, sym, refl, ap, ◌∙◌, arith}
 use Rattle.choosing.specs.Free.{usable_head, run_at}
 use Rattle.heads.specs.Heads.{head_of, head_says}
 use Rattle.service.specs.Moments.{Moment, moment_of}
