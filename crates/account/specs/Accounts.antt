@@ -20,16 +20,7 @@ is_sound a = rates_allowed a.reserve a.limit a.burst && is_pair a.burst a.limit 
 
 -- the row with these units as of an instant
 abbrev pub with_units : Account → PairUnits → ℕ → Account
-with_units a u micros = record {
-  reserve = a.reserve;
-  limit = a.limit;
-  burst = a.burst;
-  reserve_units = u.reserve;
-  limit_units = u.limit;
-  settled_at = micros;
-  mark = a.mark;
-  usage = a.usage;
-}
+with_units a u micros = record a { reserve_units = u.reserve; limit_units = u.limit; settled_at = micros }
 
 -- a new account: the limit bucket full, the reserve bucket empty, nothing sent, and its first due mark
 abbrev pub opened : Rates → ℕ → ℕ → Account
@@ -50,10 +41,7 @@ settled_to micros a = with_units a (units_at a micros) micros
 
 -- a run is sent, by the units that it finds: both buckets charged, the due mark renewed with an order number, and the run counted
 abbrev pub sent_from : PairUnits → ℕ → ℕ → Bool → Account → Account
-sent_from u micros number due a = record {
-  reserve = a.reserve;
-  limit = a.limit;
-  burst = a.burst;
+sent_from u micros number due a = record a {
   reserve_units = (charged_pair u).reserve;
   limit_units = (charged_pair u).limit;
   settled_at = micros;

@@ -1,4 +1,4 @@
-ghost use Rattle.std.specs.Prelude.{◌≡◌, true, false, MatchBool, MatchOption};
+ghost use Rattle.std.specs.Prelude.{◌≡◌, true, false, MatchOption, MatchResult};
 ghost use Rattle.account.specs.Accounts.{is_sound, opened, settled_to, sent_at, free_at, released_from, units_at, with_units};
 ghost use Rattle.bucket.specs.Pairs.{units_of};
 
@@ -11,6 +11,7 @@ use values::rates::Rates;
 
 // What a pool or session has: its rates, what its two buckets held when they were last settled, its due mark and its service record.
 // The numbers are plain; rates and the pair of buckets are made from them for settling and charging, and the pair is written back whole.
+// No ghost field says that they are a pair: rows are compared and copied as they are, and each answer says whether they were one.
 #[derive(Clone, Copy)]
 pub struct Account {
     pub reserve: u32,
@@ -22,6 +23,10 @@ pub struct Account {
     pub mark: DueMark,
     pub usage: ServiceRecord,
 }
+
+// Refused: a row's numbers are no pair of buckets.
+#[derive(Clone, Copy, Debug, PartialEq, Eq)]
+pub struct NoPair;
 
 impl Account {
     // A new account, with the order number of its first due mark.
@@ -60,42 +65,33 @@ impl Account {
     }
 
     // Settles the two buckets to an instant, in place; refused, and nothing changed, exactly where the row's numbers are no pair.
-    pub fn settle(&mut self, present: Instant) -> bool
-        ensures { MatchBool result ((is_sound self.old ≡ true) × (self.new ≡ settled_to present.micros self.old)) ((is_sound self.old ≡ false) × (self.new ≡ self.old)) }
+    pub fn settle(&mut self, present: Instant) -> Result<(), NoPair>
+        ensures { MatchResult result (λ _. (is_sound self.old ≡ true) × (self.new ≡ settled_to present.micros self.old)) (λ _. (is_sound self.old ≡ false) × (self.new ≡ self.old)) }
     {
-        match self.pair_at(present) {
-            Some(pair) => {
-                self.write_back(pair, present);
-                true
-            }
-            None => false,
-        }
+        let pair = self.pair_at(present).ok_or(NoPair)?;
+        self.write_back(pair, present);
+        Ok(())
     }
 
     // Charges one run sent at an instant, renews the due mark with an order number and counts the run, in place;
     // refused, and nothing changed, exactly where the row's numbers are no pair.
-    pub fn send(&mut self, present: Instant, number: u64, due: bool) -> bool
-        ensures { MatchBool result ((is_sound self.old ≡ true) × (self.new ≡ sent_at present.micros number due self.old)) ((is_sound self.old ≡ false) × (self.new ≡ self.old)) }
+    pub fn send(&mut self, present: Instant, number: u64, due: bool) -> Result<(), NoPair>
+        ensures { MatchResult result (λ _. (is_sound self.old ≡ true) × (self.new ≡ sent_at present.micros number due self.old)) (λ _. (is_sound self.old ≡ false) × (self.new ≡ self.old)) }
     {
-        match self.pair_at(present) {
-            Some(settled) => {
-                let pair = settled.charged();
-                self.write_back(pair, present);
-                self.mark = due_mark(pair, present, number);
-                self.usage.move_on(present);
-                self.usage.count_send(due);
-                true
-            }
-            None => false,
-        }
+        let settled = self.pair_at(present).ok_or(NoPair)?;
+        let pair = settled.charged();
+        self.write_back(pair, present);
+        self.mark = due_mark(pair, present, number);
+        self.usage.move_on(present);
+        self.usage.count_send(due);
+        Ok(())
     }
 
     // Whether the limit lets a run go at an instant; none exactly where the row's numbers are no pair.
     pub fn may_send(&self, present: Instant) -> Option<bool>
         ensures { MatchOption result (is_sound self.now ≡ false) (λ free. (is_sound self.now ≡ true) × (free ≡ free_at present.micros self.now)) }
     {
-        let pair = self.pair_at(present)?;
-        Some(pair.may_send())
+        Some(self.pair_at(present)?.may_send())
     }
 
     // The instant from which the limit lets a run go, as seen at the present one; none exactly where the row's numbers are no pair.

@@ -10,7 +10,7 @@ fn limit_of_three(rt: HostRuntime) -> Result<(), Fail> {
     let start = Instant::new(0)?;
     let mut account = Account::new(Rates::new(0, Some(3), 1)?, start, 0);
     assert_eq!(rt; account.may_send(start), Some(true));
-    assert!(rt; account.send(start, 1, false));
+    assert!(rt; account.send(start, 1, false).is_ok());
     assert_eq!(rt; account.limit_units, Some(0));
     assert_eq!(rt; account.release(start), Some(333_334));
     assert_eq!(rt; account.may_send(Instant::new(333_333)?), Some(false));
@@ -27,10 +27,10 @@ fn due_marks(rt: HostRuntime) -> Result<(), Fail> {
     assert_eq!(rt; account.mark.at, Some(100_000));
     assert_eq!(rt; account.mark.number, 7);
     let later = Instant::new(1_000_000)?;
-    assert!(rt; account.send(later, 8, true));
+    assert!(rt; account.send(later, 8, true).is_ok());
     assert_eq!(rt; account.reserve_units, 1_000_000);
     assert_eq!(rt; account.mark.at, Some(1_000_000));
-    assert!(rt; account.send(later, 9, true));
+    assert!(rt; account.send(later, 9, true).is_ok());
     assert_eq!(rt; account.mark.at, Some(1_100_000));
     assert_eq!(rt;
         Account::new(Rates::new(1, None, 1)?, Instant::new(1_099_511_627_775)?, 0)
@@ -45,7 +45,7 @@ fn due_marks(rt: HostRuntime) -> Result<(), Fail> {
 #[test]
 fn settling_an_hour_on(rt: HostRuntime) -> Result<(), Fail> {
     let mut account = Account::new(Rates::new(5, Some(100_000), 2)?, Instant::new(0)?, 0);
-    assert!(rt; account.settle(Instant::new(3_600_000_000)?));
+    assert!(rt; account.settle(Instant::new(3_600_000_000)?).is_ok());
     assert_eq!(rt; account.limit_units, Some(2_000_000));
     assert_eq!(rt; account.reserve_units, 2_000_000);
     Ok(())
@@ -61,7 +61,7 @@ fn no_pair(rt: HostRuntime) -> Result<(), Fail> {
     assert!(rt; BucketPair::from_units(rates, 0, Some(1_000_001)).is_none());
     let mut account = Account::new(rates, Instant::new(0)?, 0);
     account.reserve_units = 1_000_001;
-    assert!(rt; !account.send(Instant::new(5)?, 1, true));
+    assert!(rt; account.send(Instant::new(5)?, 1, true).is_err());
     assert_eq!(rt; account.mark.number, 0);
     assert_eq!(rt; account.settled_at, 0);
     Ok(())

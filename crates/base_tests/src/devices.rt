@@ -1,4 +1,4 @@
-use device::device::Device;
+use device::device::{Device, DeviceFull};
 use device::elevator::Elevator;
 use device::store::LineStore;
 use std::test::Fail;
@@ -20,20 +20,17 @@ fn read(first: u32, address: u32, length: u8) -> Result<Run, Fail> {
 // The first arrival number of the run that a device works on and gives next.
 fn next<D: Device>(device: &mut D) -> Option<u32> {
     device.work();
-    match device.take() {
-        Some(run) => Some(run.first),
-        None => None,
-    }
+    device.take().map(|run| run.first)
 }
 
 // Arm 116, runs at 100 and 500: the arm goes to 500.
 #[test]
 fn arm_goes_up_and_round(rt: HostRuntime) -> Result<(), Fail> {
     let mut disk = Elevator::new();
-    assert!(rt; disk.put(read(0, 100, 16)?));
+    assert!(rt; disk.put(read(0, 100, 16)?).is_ok());
     assert_eq!(rt; next(&mut disk), Some(0));
-    assert!(rt; disk.put(read(1, 100, 8)?));
-    assert!(rt; disk.put(read(2, 500, 8)?));
+    assert!(rt; disk.put(read(1, 100, 8)?).is_ok());
+    assert!(rt; disk.put(read(2, 500, 8)?).is_ok());
     assert_eq!(rt; next(&mut disk), Some(2));
     assert_eq!(rt; next(&mut disk), Some(1));
     Ok(())
@@ -42,9 +39,9 @@ fn arm_goes_up_and_round(rt: HostRuntime) -> Result<(), Fail> {
 #[test]
 fn equal_addresses_go_by_putting(rt: HostRuntime) -> Result<(), Fail> {
     let mut disk = Elevator::new();
-    assert!(rt; disk.put(read(7, 40, 8)?));
-    assert!(rt; disk.put(read(3, 40, 2)?));
-    assert!(rt; disk.put(read(5, 40, 4)?));
+    assert!(rt; disk.put(read(7, 40, 8)?).is_ok());
+    assert!(rt; disk.put(read(3, 40, 2)?).is_ok());
+    assert!(rt; disk.put(read(5, 40, 4)?).is_ok());
     assert_eq!(rt; next(&mut disk), Some(7));
     assert_eq!(rt; next(&mut disk), Some(3));
     assert_eq!(rt; next(&mut disk), Some(5));
@@ -55,10 +52,10 @@ fn equal_addresses_go_by_putting(rt: HostRuntime) -> Result<(), Fail> {
 #[test]
 fn arm_at_the_end_of_the_disk(rt: HostRuntime) -> Result<(), Fail> {
     let mut disk = Elevator::new();
-    assert!(rt; disk.put(read(0, 4_294_967_231, 64)?));
+    assert!(rt; disk.put(read(0, 4_294_967_231, 64)?).is_ok());
     assert_eq!(rt; next(&mut disk), Some(0));
-    assert!(rt; disk.put(read(1, 4_294_967_230, 1)?));
-    assert!(rt; disk.put(read(2, 0, 1)?));
+    assert!(rt; disk.put(read(1, 4_294_967_230, 1)?).is_ok());
+    assert!(rt; disk.put(read(2, 0, 1)?).is_ok());
     assert_eq!(rt; next(&mut disk), Some(2));
     assert_eq!(rt; next(&mut disk), Some(1));
     Ok(())
@@ -68,15 +65,15 @@ fn arm_at_the_end_of_the_disk(rt: HostRuntime) -> Result<(), Fail> {
 fn line_store_in_order_until_full(rt: HostRuntime) -> Result<(), Fail> {
     let mut store = LineStore::new();
     for i in 0..16u32 {
-        assert!(rt; store.put(read(i, 1000 - i, 1)?));
+        assert!(rt; store.put(read(i, 1000 - i, 1)?).is_ok());
     }
     assert_eq!(rt; store.held(), store.depth());
-    assert!(rt; !store.put(read(16, 0, 1)?));
+    assert_eq!(rt; store.put(read(16, 0, 1)?), Err(DeviceFull));
     assert_eq!(rt; store.held(), 16);
     assert_eq!(rt; next(&mut store), Some(0));
     assert_eq!(rt; next(&mut store), Some(1));
     assert_eq!(rt; store.held(), 14);
-    assert!(rt; store.put(read(16, 0, 1)?));
+    assert!(rt; store.put(read(16, 0, 1)?).is_ok());
     Ok(())
 }
 
@@ -85,14 +82,14 @@ fn line_store_in_order_until_full(rt: HostRuntime) -> Result<(), Fail> {
 fn elevator_full_of_done_runs(rt: HostRuntime) -> Result<(), Fail> {
     let mut disk = Elevator::new();
     for i in 0..32u32 {
-        assert!(rt; disk.put(read(i, i * 8, 8)?));
+        assert!(rt; disk.put(read(i, i * 8, 8)?).is_ok());
         assert_eq!(rt; disk.work(), 1);
     }
     assert_eq!(rt; disk.work(), 0);
     assert_eq!(rt; disk.held(), 32);
-    assert!(rt; !disk.put(read(32, 0, 1)?));
+    assert_eq!(rt; disk.put(read(32, 0, 1)?), Err(DeviceFull));
     assert_eq!(rt; next(&mut disk), Some(0));
-    assert!(rt; disk.put(read(32, 0, 1)?));
+    assert!(rt; disk.put(read(32, 0, 1)?).is_ok());
     Ok(())
 }
 

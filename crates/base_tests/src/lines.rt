@@ -6,12 +6,12 @@ use order::least::{least, least_candidate};
 fn lines(rt: HostRuntime) {
     let mut table = [0u8; 4];
     let mut line = Line::new(&mut table, 0);
-    assert!(rt; line.append(10));
-    assert!(rt; line.append(11));
-    assert!(rt; line.append(12));
-    assert!(rt; line.append(13));
+    assert!(rt; line.append(10).is_ok());
+    assert!(rt; line.append(11).is_ok());
+    assert!(rt; line.append(12).is_ok());
+    assert!(rt; line.append(13).is_ok());
     assert!(rt; line.is_full());
-    assert!(rt; !line.append(14));
+    assert!(rt; line.append(14).is_err());
     assert_eq!(rt; line.remove(1), Some(11));
     assert_eq!(rt; line.remove(3), None);
     line.close_up(&[true, false]);
@@ -27,7 +27,7 @@ fn a_line_is_cut_at_its_table(rt: HostRuntime) {
     let mut line = Line::new(&mut table, 5);
     assert_eq!(rt; line.len(), 3);
     assert_eq!(rt; line.remove(2), Some(9));
-    assert!(rt; line.append(6));
+    assert!(rt; line.append(6).is_ok());
     assert_eq!(rt; line.remove(2), Some(6));
 }
 
@@ -49,7 +49,7 @@ fn the_least(rt: HostRuntime) {
             mark(None, 5),
             mark(None, 3),
             mark(Some(1_099_512_627_775), 9),
-        ],),
+        ]),
         Some(2)
     );
 }

@@ -3,10 +3,7 @@ use seek::text::read_requests;
 use std::test::Fail;
 
 fn fault(line: &[u8]) -> Option<LineFault> {
-    match read_request(line) {
-        Ok(_) => None,
-        Err(fault) => Some(fault),
-    }
+    read_request(line).err()
 }
 
 #[test]

@@ -22,7 +22,7 @@ fn extents(rt: HostRuntime) -> Result<(), Fail> {
 fn ios(rt: HostRuntime) -> Result<(), Fail> {
     let io = Io::new(9, 1, 100, 8)?;
     assert_eq!(rt; io.direction, Direction::Write);
-    assert_eq!(rt; io.direction.number(), 1);
+    assert_eq!(rt; u8::from(io.direction), 1);
     assert!(rt; Io::new(9, 2, 100, 8).is_err());
     match Io::new(9, 0, 100, 65) {
         Ok(_) => Err(Fail::new("65 sectors")),

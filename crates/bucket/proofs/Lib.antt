@@ -1,4 +1,3 @@
-pub mod Edges
 pub mod Pairs
 pub mod Waiting
 pub mod Windows

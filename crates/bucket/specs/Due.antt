@@ -1,5 +1,5 @@
 -- When a bucket holds the cost of a run: due marks by the reserve bucket, releases by the limit bucket.
-use Rattle.std.specs.Prelude.{◌≡◌, ℕ, ◌+◌, ◌-◌, ◌/◌, ◌≤◌, true, cond, Some, None, Option, ◌==◌}
+use Rattle.std.specs.Prelude.{◌≡◌, ℕ, ◌+◌, ◌-◌, ◌/◌, ◌≤◌, true, if◌then◌else◌, Some, None, Option, ◌==◌}
 use Rattle.order.specs.declared.keys.DueMark.{DueMark}
 use Rattle.values.specs.declared.rates.Rates.{Rates}
 use Rattle.bucket.specs.Buckets.{PairUnits, capacity, may_send, run_cost, settled_pair, settled_units}
@@ -10,7 +10,7 @@ wait_for amount rate units = (amount - units + (rate - 1)) / rate
 
 -- the instant from which the reserve bucket holds the cost of a run; with reserve 0 never
 abbrev pub due_at : (reserve units present : ℕ) → Option ℕ
-due_at reserve units present = cond (reserve == 0) None (Some (present + wait_for run_cost reserve units))
+due_at reserve units present = if reserve == 0 then None else Some (present + wait_for run_cost reserve units)
 
 -- the due mark that is set at the present instant
 abbrev pub mark_of : (reserve units present number : ℕ) → DueMark

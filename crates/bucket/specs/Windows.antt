@@ -1,11 +1,11 @@
 -- The window law of a limited bucket: how many runs it pays for between two instants.
-use Rattle.std.specs.Prelude.{◌≡◌, ℕ, ◌+◌, ◌-◌, ◌*◌, ◌≤◌, cond, List, [], ◌∷◌, nat_le}
+use Rattle.std.specs.Prelude.{◌≡◌, ℕ, ◌+◌, ◌-◌, ◌*◌, ◌≤◌, if◌then◌else◌, List, [], ◌∷◌, nat_le}
 use Rattle.bucket.specs.Buckets.{capacity, charged_units, run_cost, settled_units}
 
 -- how many instants of a list lie from one to another, both counted
 abbrev pub within : (from to : ℕ) → List ℕ → ℕ
 within from to [] = 0
-within from to (at ∷ log) = cond (nat_le from at) (cond (nat_le at to) 1 0) 0 + within from to log
+within from to (at ∷ log) = (if nat_le from at then (if nat_le at to then 1 else 0) else 0) + within from to log
 
 -- the runs charged at these instants cost, between any two instants, at most the capacity and what the rate fills in meanwhile
 abbrev pub Windowed : (rate burst : ℕ) → List ℕ → Type 0

@@ -13,7 +13,7 @@ fn wait_for_run(rate: u32, units: u64) -> u64
     requires { 1 ≤ rate }
     ensures { result ≡ wait_for run_cost rate units }
 {
-    let rate = rate as u64;
+    let rate = u64::from(rate);
     (RUN_COST.saturating_sub(units) + (rate - 1)) / rate
 }
 

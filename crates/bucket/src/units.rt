@@ -8,16 +8,17 @@ pub const RUN_COST: u64 = 1_000_000;
 pub fn capacity_of(burst: u8) -> u64
     ensures { result ≡ capacity burst }
 {
-    burst as u64 * 1_000_000
+    u64::from(burst) * RUN_COST
 }
 
-// What a bucket holds some microseconds later. The sum is taken in wider numbers, since the microseconds may be any.
+// What a bucket holds some microseconds later. A sum past the last number is above the most that a bucket holds all the same.
 pub fn settled_units(rate: u32, burst: u8, units: u64, micros: u64) -> u64
     ensures { result ≡ settled_units rate burst units micros }
 {
-    let sum = units as u128 + rate as u128 * micros as u128;
-    let most = capacity_of(burst);
-    if sum < most as u128 { sum as u64 } else { most }
+    u64::from(rate)
+        .saturating_mul(micros)
+        .saturating_add(units)
+        .min(capacity_of(burst))
 }
 
 // What the cost of a run leaves in a bucket.

@@ -1,11 +1,10 @@
 -- The choice asks only which of the 64 places are free.
-use Rattle.std.proofs.Common.{◌≡◌, ℕ, zero, suc, ◌+◌, ◌<◌, Bool, cond, ◌&&◌, ◌||◌, eqb, Some, None, Option, refl, ap, ◌∙◌, subst, add-one, arith}
+use Rattle.std.proofs.Common.{◌≡◌, ℕ, zero, suc, ◌+◌, ◌<◌, Bool, cond, ◌&&◌, ◌||◌, eqb, Some, None, Option, sym, refl, ap, ◌∙◌, add-one, arith}
 use Rattle.choosing.proofs.Filling.{same_least}
 use Rattle.choosing.specs.Chosen.{in_pool, level_choice, mark_or_level, chosen_of}
 use Rattle.choosing.specs.Due.{own_mark, effective_mark, has_come, due_key, due_choice}
 use Rattle.choosing.specs.Picks.{some_of}
 use Rattle.choosing.specs.Spare.{is_free_in, pool_level, session_level, pool_key, session_key, pool_choice, session_choice}
-use Rattle.choosing.specs.declared.choose.Choice.{Choice}
 use Rattle.order.specs.Keys.{mark_before, level_before}
 use Rattle.order.specs.Order.{then_by}
 use Rattle.service.specs.Rows.{session}
@@ -17,10 +16,10 @@ unfolding some_of
 same_some zero f g e = refl
 same_some (suc n) f g e = ap (λ b. b || f n) (same_some n f g (λ k l. e k (omega arith))) ∙ ap (λ b. some_of n g || b) (e n (omega arith))
 
--- one place more
-pub some_more : (n : ℕ) (test : ℕ → Bool) → some_of (n + 1) test ≡ (some_of n test || test n)
+-- one place more was looked at
+pub some_more : (test : ℕ → Bool) (n m : ℕ) (before this after : Bool) → before ≡ some_of n test → this ≡ test n → after ≡ (before || this) → m ≡ n + 1 → after ≡ some_of m test
 unfolding some_of
-some_more n test = ap (λ m. some_of m test) (add-one n)
+some_more test n m before this after b t a e = a ∙ (ap (λ x. x || this) b ∙ (ap (λ x. some_of n test || x) t ∙ ap (λ k. some_of k test) (sym (add-one n) ∙ sym e)))
 
 module _ (level : ServiceRecord → ℕ) (t : Tables) (f g : ℕ → Bool) (e : (k : ℕ) → k < 64 → f k ≡ g k) (micros : ℕ) where
   same_due : due_choice t f micros ≡ due_choice t g micros
@@ -43,10 +42,3 @@ module _ (level : ServiceRecord → ℕ) (t : Tables) (f g : ℕ → Bool) (e : 
   same_chosen =
       ap (λ o. mark_or_level o (level_choice level t f micros)) same_due
       ∙ ap (mark_or_level (due_choice t g micros)) (same_in_pool (pool_choice level t f micros) ∙ ap (in_pool (session_choice level t g micros)) same_pool)
-
-  pub chosen_as : (r : Option Choice) → r ≡ chosen_of level t f micros → r ≡ chosen_of level t g micros
-  chosen_as r h = subst (λ (c : Option Choice). r ≡ c) same_chosen h
-
--- a key that is there by one test is there by an equal one
-pub key_as : {X : Type 0} (x : X) (b c : Bool) (r : Option X) → r ≡ cond b (Some x) None → b ≡ c → r ≡ cond c (Some x) None
-key_as x b c r h e = subst (λ d. r ≡ cond d (Some x) None) e h

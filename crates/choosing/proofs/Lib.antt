@@ -6,5 +6,6 @@ pub mod Placing
 pub mod Rightly
 pub mod Passing
 pub mod Waking
+pub mod Earliest
 pub mod Lawful
 pub mod Quietly

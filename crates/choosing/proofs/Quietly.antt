@@ -1,5 +1,5 @@
 -- Until the wake-up nothing changes by itself.
-use Rattle.std.proofs.Common.{◌≡◌, ℕ, ◌+◌, ◌-◌, ◌<◌, ◌≤◌, max, Bool, true, false, cond, ◌&&◌, ltb, leb, Some, None, Option, sym, refl, subst, inl, inr, ⊎_elim, arith}
+use Rattle.std.proofs.Common.{◌≡◌, ℕ, ◌+◌, ◌-◌, ◌<◌, ◌≤◌, max, true, false, cond, ◌&&◌, ltb, leb, Some, None, Option, sym, refl, subst, inl, inr, ⊎_elim, arith}
 use Rattle.account.specs.Accounts.{is_sound, free_at, released_from}
 use Rattle.account.specs.declared.row.Account.{Account}
 use Rattle.bucket.proofs.Pairs.{settled_twice}
@@ -16,13 +16,9 @@ use Rattle.choosing.specs.Woken.{Awaits, RightWake}
 use Rattle.service.specs.Rows.{session, pool}
 use Rattle.service.specs.declared.rows.Tables.{Tables}
 use Rattle.std.proofs.lemmas.Bool.{both_ways, and_parts, and_from, cases_lt, leb-true, le-leb}
-use Rattle.std.proofs.lemmas.Bool.Decides.{nat_tests}
+use Rattle.std.proofs.Math.Nat.{le-max_left, le-max_right, max-le}
+use Rattle.std.specs.Cmp.{both_ways as same_bool}
 use Rattle.values.specs.Rates.{limit_allowed, rates_allowed}
-
-same_bool : (a b : Bool) → (a ≡ true → b ≡ true) → (b ≡ true → a ≡ true) → a ≡ b
-same_bool true b f g = sym (f refl)
-same_bool false true f g = g refl
-same_bool false false f g = refl
 
 -- ---- one account
 
@@ -127,24 +123,17 @@ module _ (m : Moment) (settled : Settled m) (u : ℕ) (on : m.micros ≤ u) (qui
   release_is : (k v : ℕ) → Parts k v → release_instant t m.micros k ≡ Some (max (released_from m.micros (own k)) (released_from m.micros (all k)))
   release_is k v p = λ i. later_of (cond (p.own_sound i) (Some (released_from m.micros (own k))) None) (cond (p.inside i) (cond (p.all_sound i) (Some (released_from m.micros (all k))) None) None)
 
-  max_above : (x y : ℕ) → (x ≤ max x y) × (y ≤ max x y)
-  max_above x y = (grind (arith, nat_tests), grind (arith, nat_tests))
-
-  max_least : (x y z : ℕ) → x ≤ z → y ≤ z → max x y ≤ z
-  max_least x y z p q = grind (arith, nat_tests)
-
   -- one that is free before the wake-up is free at present
   earlier : (k : ℕ) → k < 64 → Parts k u → Parts k m.micros
   earlier k l p =
       let x = released_from m.micros (own k) in
       let y = released_from m.micros (all k) in
-      let above = max_above x y in
       ⊎_elim
       (λ (past : m.micros < max x y).
       let w = waits k (max x y) (record { inside = l; head = p.head; later = past; either = inl (release_is k u p) }) in
-      let z = max_least x y u p.own_free p.all_free in
+      let z = max-le p.own_free p.all_free in
       absurd (omega (arith, w, z)))
-      (λ (come : max x y ≤ m.micros). record { head = p.head; own_sound = p.own_sound; inside = p.inside; all_sound = p.all_sound; own_free = omega (arith, above.0, come); all_free = omega (arith, above.1, come) })
+      (λ (come : max x y ≤ m.micros). record { head = p.head; own_sound = p.own_sound; inside = p.inside; all_sound = p.all_sound; own_free = omega (arith, le-max_left x y, come); all_free = omega (arith, le-max_right x y, come) })
       (cases_lt m.micros (max x y))
 
   later : (k : ℕ) → Parts k m.micros → Parts k u

@@ -13,17 +13,8 @@ use Rattle.choosing.specs.Woken.{Awaits, RightWake}
 use Rattle.order.specs.Least.{least_of, place_of, key_of}
 use Rattle.std.proofs.lemmas.List.FromFn.{get_or-map-range_with_len}
 use Rattle.std.proofs.lemmas.Bool.{cases_lt, lt-ltb, ltb-true, ltb-false}
-use Rattle.std.proofs.lemmas.Bool.Decides.{nat_tests}
+use Rattle.std.proofs.Math.Nat.{min-le_left, min-le_right, min-eq_left, min-eq_right}
 use Rattle.std.specs.List.{range_with_len}
-
-min_left : (x y : ℕ) → x < y → x ≡ min x y
-min_left x y l = grind (arith, nat_tests)
-
-min_right : (x y : ℕ) → y ≤ x → y ≡ min x y
-min_right x y l = grind (arith, nat_tests)
-
-min_below : (x y : ℕ) → (min x y ≤ x) × (min x y ≤ y)
-min_below x y = (grind (arith, nat_tests), grind (arith, nat_tests))
 
 after_says : (micros : ℕ) (x : Option ℕ) (at : ℕ) → after micros x ≡ Some at → (micros < at) × (x ≡ Some at)
 after_says micros None at e = never at e
@@ -35,15 +26,14 @@ after_there micros x u l e = ap (after micros) e ∙ given (ltb micros u) u (lt-
 earlier_says : (x y : Option ℕ) (at : ℕ) → earlier_of x y ≡ Some at → (x ≡ Some at) ⊎ (y ≡ Some at)
 earlier_says None y at e = inr e
 earlier_says (Some x) None at e = inl e
-earlier_says (Some x) (Some y) at e = ⊎_elim (λ (l : x < y). inl (ap Some (min_left x y l) ∙ e)) (λ (l : y ≤ x). inr (ap Some (min_right x y l) ∙ e)) (cases_lt x y)
+earlier_says (Some x) (Some y) at e = ⊎_elim (λ (l : x < y). inl (ap Some (sym (min-eq_left (omega arith))) ∙ e)) (λ (l : y ≤ x). inr (ap Some (sym (min-eq_right l)) ∙ e)) (cases_lt x y)
 
 earlier_least : (x y : Option ℕ) (u : ℕ) → (x ≡ Some u) ⊎ (y ≡ Some u) → (v : ℕ) × (earlier_of x y ≡ Some v) × (v ≤ u)
 earlier_least None None u h = ⊎_elim (λ e. never u e) (λ e. never u e) h
 earlier_least None (Some y) u h = ⊎_elim (λ e. never u e) (λ e. let q = one y u e in (y, refl, omega arith)) h
 earlier_least (Some x) None u h = ⊎_elim (λ e. let q = one x u e in (x, refl, omega arith)) (λ e. never u e) h
 earlier_least (Some x) (Some y) u h =
-    let b = min_below x y in
-    (min x y, refl, ⊎_elim (λ e. let q = one x u e in omega (arith, b.0)) (λ e. let q = one y u e in omega (arith, b.1)) h)
+    (min x y, refl, ⊎_elim (λ e. let q = one x u e in omega (arith, min-le_left x y)) (λ e. let q = one y u e in omega (arith, min-le_right x y)) h)
 
 module _ (m : Moment) where
   abbrev key : ℕ → Option ℕ

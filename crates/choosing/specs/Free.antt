@@ -1,5 +1,5 @@
 -- Which sessions are free to go.
-use Rattle.std.specs.Prelude.{ℕ, Bool, false, cond, ◌&&◌, List, is_some, Some, None, Option, nat_le, nat_lt, slice_index_or}
+use Rattle.std.specs.Prelude.{ℕ, Bool, false, if◌then◌else◌, ◌&&◌, List, is_some, Some, None, Option, nat_le, nat_lt, slice_index_or}
 use Rattle.account.specs.Accounts.{is_sound, free_at}
 use Rattle.account.specs.declared.row.Account.{Account}
 use Rattle.heads.specs.Heads.{HeadRun, head_says}
@@ -16,7 +16,7 @@ run_at heads k = option_map head_says (slice_index_or heads k None)
 -- the head run of a present session; none if it has more I/Os than the session has accepted and not sent
 abbrev pub usable_head : Session → Option HeadRun → Option HeadRun
 usable_head r None = None
-usable_head r (Some h) = cond (is_present r.state && nat_le h.count r.unsent) (Some h) None
+usable_head r (Some h) = if is_present r.state && nat_le h.count r.unsent then Some h else None
 
 -- an account's limit bucket lets a run go; one whose numbers are no pair of buckets never does
 abbrev pub lets_go : ℕ → Account → Bool
@@ -30,9 +30,13 @@ pool_lets_go t micros number = nat_lt number 16 && lets_go micros (pool t number
 abbrev pub has_head : Tables → (ℕ → Option HeadRun) → ℕ → Bool
 has_head t heads k = is_some (usable_head (session t k) (heads k))
 
--- it has one, and its own and its pool's limit buckets let a run go
+-- a session with such a head run: it can be used, and its own and its pool's limit buckets let a run go
+abbrev pub row_goes : Tables → ℕ → Session → Option HeadRun → Bool
+row_goes t micros r head = is_some (usable_head r head) && (lets_go micros r.account && pool_lets_go t micros r.pool)
+
+-- so for the session at a place
 abbrev pub is_free_to_go : Tables → (ℕ → Option HeadRun) → ℕ → ℕ → Bool
-is_free_to_go t heads micros k = has_head t heads k && (lets_go micros (session t k).account && pool_lets_go t micros (session t k).pool)
+is_free_to_go t heads micros k = row_goes t micros (session t k) (heads k)
 
 -- the places that an array of answers has as free
 abbrev pub free_in : List Bool → ℕ → Bool

@@ -8,3 +8,4 @@ pub mod Right
 pub mod Woken
 pub mod Laws
 pub mod Quiet
+pub mod Views

@@ -1,8 +1,9 @@
 ghost use Rattle.std.specs.Prelude.{◌≡◌, ℕ, ◌<◌, false, slice_index_or};
-ghost use Rattle.choosing.specs.Free.{run_at, usable_head, lets_go, pool_lets_go, is_free_to_go};
+ghost use Rattle.choosing.specs.Free.{run_at, usable_head, lets_go, pool_lets_go, row_goes, is_free_to_go};
 ghost use Rattle.heads.specs.Heads.{head_says};
 ghost use Rattle.std.specs.Option.{option_map};
 
+use crate::view::{FreePlaces, View};
 use account::row::Account;
 use heads::head::Head;
 use service::rows::{Session, Tables};
@@ -12,58 +13,53 @@ use values::instant::Instant;
 pub fn usable(row: &Session, head: Option<Head>) -> Option<Head>
     ensures { option_map head_says result ≡ usable_head row.now (option_map head_says head) }
 {
-    match head {
-        Some(h) => {
-            if row.state.is_present() && h.count as u32 <= row.unsent {
-                Some(h)
-            } else {
-                None
-            }
-        }
-        None => None,
-    }
+    head.filter(|head| row.state.is_present() && u32::from(head.count) <= row.unsent)
 }
 
 // Whether the limit bucket of an account lets a run go.
 fn lets_go(account: &Account, present: Instant) -> bool
     ensures { result ≡ lets_go present.micros account.now }
 {
-    match account.may_send(present) {
-        Some(free) => free,
-        None => false,
-    }
+    account.may_send(present).unwrap_or(false)
 }
 
 // The same of a pool's account, by the pool's number; past the 16 places there is none.
 fn pool_lets_go(tables: &Tables, number: u8, present: Instant) -> bool
     ensures { result ≡ pool_lets_go tables.now present.micros number }
 {
-    number < 16 && lets_go(&tables.pools[number as usize].account, present)
+    tables
+        .pools
+        .get(usize::from(number))
+        .is_some_and(|pool| lets_go(&pool.account, present))
 }
 
-// Whether the session of a place is free to go.
-fn is_free_to_go(
-    tables: &Tables,
-    heads: &[Option<Head>; 64],
-    present: Instant,
-    place: usize,
-) -> bool
-    requires { place < 64 }
-    ensures { result ≡ is_free_to_go tables.now (run_at heads.now) present.micros place }
-{
-    let row = &tables.sessions[place];
-    usable(row, heads[place]).is_some()
-        && lets_go(&row.account, present)
-        && pool_lets_go(tables, row.pool, present)
-}
-
-// All places whose session is free to go.
-pub fn free_places(tables: &Tables, heads: &[Option<Head>; 64], present: Instant) -> [bool; 64]
-    ensures { (k : ℕ) → k < 64 → slice_index_or result k false ≡ is_free_to_go tables.now (run_at heads.now) present.micros k }
-{
-    let mut free = [false; 64];
-    for place in 0..64 {
-        free[place] = is_free_to_go(tables, heads, present, place);
+impl<'a> View<'a> {
+    // Whether a session that has this head run is free to go.
+    fn is_free_to_go(&self, row: &Session, head: Option<Head>) -> bool
+        ensures { result ≡ row_goes self.now.tables.now self.now.present.micros row.now (option_map head_says head) }
+    {
+        usable(row, head).is_some()
+            && lets_go(&row.account, self.present)
+            && pool_lets_go(self.tables, row.pool, self.present)
     }
-    free
+
+    // All places whose session is free to go.
+    pub fn free_places(&self) -> FreePlaces<'a>
+        ensures same { (result.tables.now ≡ self.now.tables.now) × (result.present ≡ self.now.present) }
+        ensures free { (k : ℕ) → k < 64 → slice_index_or result.free k false ≡ is_free_to_go self.now.tables.now (run_at self.now.heads.now) self.now.present.micros k }
+    {
+        let heads = self.heads;
+        // The closure's clauses say what each place gets.
+        let free = std::array::from_fn(
+            |place|
+                requires { place < 64 }
+                ensures { result ≡ is_free_to_go self.entry.now.tables.now (run_at heads.entry.now) self.entry.now.present.micros place }
+            { self.is_free_to_go(&self.tables.sessions[place], heads[place]) },
+        );
+        FreePlaces {
+            tables: self.tables,
+            free,
+            present: self.present,
+        }
+    }
 }

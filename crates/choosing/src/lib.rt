@@ -6,4 +6,5 @@ pub mod due;
 pub mod free;
 pub mod laws;
 pub mod spare;
+pub mod view;
 pub mod wake;

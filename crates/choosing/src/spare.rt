@@ -1,12 +1,12 @@
-ghost use Rattle.std.specs.Prelude.{◌≡◌, ℕ, ◌<◌, false, cond, ◌&&◌, ◌||◌, Some, None, ◌==◌, slice_index_or};
+ghost use Rattle.std.specs.Prelude.{◌≡◌, ℕ, ◌<◌, false, if◌then◌else◌, ◌&&◌, ◌||◌, Some, None, ◌==◌, slice_index_or};
 ghost use Rattle.choosing.specs.Free.{free_in};
-ghost use Rattle.choosing.specs.Spare.{level_at, pool_has_free, pool_level, session_key, pool_choice, session_choice};
+ghost use Rattle.choosing.specs.Spare.{level_at, pool_has_free, named_level, pool_level, row_level, pool_choice, session_choice};
 
+use crate::view::FreePlaces;
 use account::row::Account;
-use order::key::Key;
 use order::keys::Level;
 use order::least::least_candidate;
-use service::rows::Tables;
+use service::rows::Session;
 use sharing::rule::SharingRule;
 use values::instant::Instant;
 
@@ -19,100 +19,89 @@ fn level_at<R: SharingRule>(rule: &R, account: &Account, present: Instant) -> u6
     rule.level_of(&usage)
 }
 
-// The level of a pool that has a free session, with its number.
-fn pool_key<R: SharingRule>(
-    rule: &R,
-    tables: &Tables,
-    has_free: bool,
-    present: Instant,
-    number: usize,
-) -> Option<Level>
-    requires { number < 16 }
-    ensures { result ≡ cond has_free (Some (pool_level (R.level rule.now) tables.now present.micros number)) None }
-{
-    if has_free {
-        Some(Level {
-            level: level_at(rule, &tables.pools[number].account, present),
-            name: number as u32,
-        })
-    } else {
-        None
-    }
-}
-
 // Notes that a pool, by its number, has a free session.
 fn note(has_free: &mut [bool; 16], number: u8, free: bool)
     ensures { (p : ℕ) → p < 16 → slice_index_or has_free.new p false ≡ (slice_index_or has_free.old p false || (free && number == p)) }
 {
-    if free && number < 16 {
-        has_free[number as usize] = true;
+    let number = usize::from(number);
+    if free && number < has_free.len() {
+        has_free[number] = true;
     }
 }
 
-// Which pools have a free session, by one pass over the sessions.
-fn pools_with_free(tables: &Tables, free: &[bool; 64]) -> [bool; 16]
-    ensures { (p : ℕ) → p < 16 → slice_index_or result p false ≡ pool_has_free tables.now (free_in free.now) p }
-{
-    let mut has_free = [false; 16];
-    for place in 0..64 {
-        note(&mut has_free, tables.sessions[place].pool, free[place]);
+impl FreePlaces<'_> {
+    // The level of an account, with the name of what has it, if that is one to choose among.
+    fn level_key<R: SharingRule>(
+        &self,
+        rule: &R,
+        account: &Account,
+        name: u32,
+        wanted: bool,
+    ) -> Option<Level>
+        ensures { result ≡ (if wanted then Some (named_level (R.level rule.now) self.now.present.micros account.now name) else None) }
+    {
+        if wanted {
+            let level = level_at(rule, account, self.present);
+            Some(Level { level, name })
+        } else {
+            None
+        }
     }
-    has_free
-}
 
-// The number of the pool of lowest level that has a free session.
-pub fn pool_choice<R: SharingRule>(
-    rule: &R,
-    tables: &Tables,
-    free: &[bool; 64],
-    present: Instant,
-) -> Option<usize>
-    ensures { result ≡ pool_choice (R.level rule.now) tables.now (free_in free.now) present.micros }
-{
-    let has_free = pools_with_free(tables, free);
-    let mut keys = [None; 16];
-    for number in 0..16 {
-        keys[number] = pool_key(rule, tables, has_free[number], present, number);
+    // The key of a pool that has a free session, by its number.
+    fn pool_key<R: SharingRule>(&self, rule: &R, number: usize, has_free: bool) -> Option<Level>
+        requires { number < 16 }
+        ensures { result ≡ (if has_free then Some (pool_level (R.level rule.now) self.now.tables.now self.now.present.micros number) else None) }
+    {
+        let account = &self.tables.pools[number].account;
+        self.level_key(rule, account, number as u32, has_free)
     }
-    least_candidate(&keys)
-}
 
-// The level of a free session of a pool, with its name.
-fn session_key<R: SharingRule>(
-    rule: &R,
-    tables: &Tables,
-    free: &[bool; 64],
-    present: Instant,
-    pool: usize,
-    place: usize,
-) -> Option<Level>
-    requires { place < 64 }
-    ensures { result ≡ session_key (R.level rule.now) tables.now (free_in free.now) present.micros pool place }
-{
-    let row = &tables.sessions[place];
-    if free[place] && row.pool as usize == pool {
-        Some(Level {
-            level: level_at(rule, &row.account, present),
-            name: row.name,
-        })
-    } else {
-        None
+    // The key of a free session of a pool, by its name.
+    fn session_key<R: SharingRule>(
+        &self,
+        rule: &R,
+        row: &Session,
+        free: bool,
+        pool: usize,
+    ) -> Option<Level>
+        ensures { result ≡ (if free && row.now.pool == pool then Some (row_level (R.level rule.now) self.now.present.micros row.now) else None) }
+    {
+        let wanted = free && usize::from(row.pool) == pool;
+        self.level_key(rule, &row.account, row.name, wanted)
     }
-}
 
-// The place of the pool's free session of lowest level.
-pub fn session_choice<R: SharingRule>(
-    rule: &R,
-    tables: &Tables,
-    free: &[bool; 64],
-    present: Instant,
-    pool: usize,
-) -> Option<usize>
-    ensures { result ≡ session_choice (R.level rule.now) tables.now (free_in free.now) present.micros pool }
-{
-    let mut keys = [None; 64];
-    for place in 0..64 {
-        keys[place] = session_key(rule, tables, free, present, pool, place);
+    // Which pools have a free session, by one pass over the sessions: in fixed memory, beside the table of pools.
+    fn pools_with_free(&self) -> [bool; 16]
+        ensures { (p : ℕ) → p < 16 → slice_index_or result p false ≡ pool_has_free self.now.tables.now (free_in self.now.free) p }
+    {
+        let mut has_free = [false; 16];
+        for (row, free) in self.tables.sessions.iter().zip(&self.free) {
+            note(&mut has_free, row.pool, *free);
+        }
+        has_free
     }
-    least_candidate(&keys)
+
+    // The number of the pool of lowest level that has a free session.
+    pub fn pool_choice<R: SharingRule>(&self, rule: &R) -> Option<usize>
+        ensures { result ≡ pool_choice (R.level rule.now) self.now.tables.now (free_in self.now.free) self.now.present.micros }
+    {
+        let has_free = self.pools_with_free();
+        let keys: [Option<Level>; 16] = std::array::from_fn(|number| self.pool_key(
+            rule,
+            number,
+            has_free[number],
+        ));
+        least_candidate(&keys)
+    }
+
+    // The place of the pool's free session of lowest level.
+    pub fn session_choice<R: SharingRule>(&self, rule: &R, pool: usize) -> Option<usize>
+        ensures { result ≡ session_choice (R.level rule.now) self.now.tables.now (free_in self.now.free) self.now.present.micros pool }
+    {
+        let keys: [Option<Level>; 64] = std::array::from_fn(|place| {
+            self.session_key(rule, &self.tables.sessions[place], self.free[place], pool)
+        });
+        least_candidate(&keys)
+    }
 }

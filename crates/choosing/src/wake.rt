@@ -1,15 +1,17 @@
-ghost use Rattle.std.specs.Prelude.{◌≡◌, ◌<◌};
+ghost use Rattle.std.specs.Prelude.{◌≡◌};
 ghost use Rattle.choosing.specs.Free.{run_at};
-ghost use Rattle.choosing.specs.Wake.{release_of, pool_release, later_of, earlier_of, after, release_instant, wake_key, earliest, wake_at};
+ghost use Rattle.choosing.specs.Views.{seen};
+ghost use Rattle.choosing.specs.Wake.{release_of, pool_release, later_of, earlier_of, after, row_release, row_wake_key, wake_at};
 ghost use Rattle.choosing.specs.Woken.{RightWake};
+ghost use Rattle.heads.specs.Heads.{head_says};
+ghost use Rattle.std.specs.Option.{option_map};
 
-use super::due::effective_mark;
-use super::free::usable;
+use crate::due::effective_mark;
+use crate::free::usable;
+use crate::view::View;
 use account::row::Account;
 use heads::head::Head;
-use order::key::Key;
-use order::least::least_candidate;
-use service::rows::Tables;
+use service::rows::{Session, Tables};
 use values::instant::Instant;
 
 // The instant from which the limit bucket of an account lets a run go.
@@ -23,21 +25,15 @@ fn release_of(account: &Account, present: Instant) -> Option<u64>
 fn pool_release(tables: &Tables, number: u8, present: Instant) -> Option<u64>
     ensures { result ≡ pool_release tables.now present.micros number }
 {
-    if number < 16 {
-        release_of(&tables.pools[number as usize].account, present)
-    } else {
-        None
-    }
+    let pool = tables.pools.get(usize::from(number))?;
+    release_of(&pool.account, present)
 }
 
 // The later of two instants, if both are there.
 fn later_of(x: Option<u64>, y: Option<u64>) -> Option<u64>
     ensures { result ≡ later_of x y }
 {
-    match (x, y) {
-        (Some(x), Some(y)) => if x < y { Some(y) } else { Some(x) },
-        _ => None,
-    }
+    Some(x?.max(y?))
 }
 
 // The earlier of those of two instants that are there.
@@ -45,9 +41,8 @@ fn earlier_of(x: Option<u64>, y: Option<u64>) -> Option<u64>
     ensures { result ≡ earlier_of x y }
 {
     match (x, y) {
-        (Some(x), Some(y)) => if y < x { Some(y) } else { Some(x) },
-        (Some(x), None) => Some(x),
-        (None, y) => y,
+        (Some(x), Some(y)) => Some(x.min(y)),
+        _ => x.or(y),
     }
 }
 
@@ -55,62 +50,43 @@ fn earlier_of(x: Option<u64>, y: Option<u64>) -> Option<u64>
 fn if_after(present: Instant, at: Option<u64>) -> Option<u64>
     ensures { result ≡ after present.micros at }
 {
-    match at {
-        Some(at) => if present.micros < at { Some(at) } else { None },
-        None => None,
-    }
+    at.filter(|at| present.micros < *at)
 }
 
 // The later of the releases of a session and its pool.
-fn release_instant(tables: &Tables, present: Instant, place: usize) -> Option<u64>
-    requires { place < 64 }
-    ensures { result ≡ release_instant tables.now present.micros place }
+fn release_instant(tables: &Tables, row: &Session, present: Instant) -> Option<u64>
+    ensures { result ≡ row_release tables.now present.micros row.now }
 {
-    let row = &tables.sessions[place];
     later_of(
         release_of(&row.account, present),
         pool_release(tables, row.pool, present),
     )
 }
 
-// The earlier of the release instant and the effective due instant of a session with a usable head run, of those after the present instant.
-fn wake_key(
-    tables: &Tables,
-    heads: &[Option<Head>; 64],
-    present: Instant,
-    place: usize,
-) -> Option<u64>
-    requires { place < 64 }
-    ensures { result ≡ wake_key tables.now (run_at heads.now) present.micros place }
-{
-    if usable(&tables.sessions[place], heads[place]).is_some() {
+impl View<'_> {
+    // For a session with a usable head run: the earlier of its release instant and its effective due instant,
+    // of those after the present instant.
+    fn wake_key(&self, row: &Session, head: Option<Head>) -> Option<u64>
+        ensures { result ≡ row_wake_key self.now.tables.now self.now.present.micros row.now (option_map head_says head) }
+    {
+        usable(row, head)?;
         earlier_of(
-            if_after(present, release_instant(tables, present, place)),
-            if_after(present, effective_mark(tables, place).at),
+            if_after(
+                self.present,
+                release_instant(self.tables, row, self.present),
+            ),
+            if_after(self.present, effective_mark(self.tables, row).at),
         )
-    } else {
-        None
     }
-}
 
-// The earliest of some instants.
-fn least_key(times: &[Option<u64>]) -> Option<u64>
-    ensures { result ≡ earliest times.now }
-{
-    match least_candidate(times) {
-        Some(i) => times[i],
-        None => None,
+    // The earliest release or effective due instant after the present instant, over the sessions with a usable head run.
+    pub fn wake_up(&self) -> Option<u64>
+        ensures is { result ≡ wake_at self.now.tables.now (run_at self.now.heads.now) self.now.present.micros }
+        ensures right { RightWake (seen self.now) result }
+    {
+        let places = self.tables.sessions.iter().zip(self.heads);
+        places
+            .filter_map(|(row, head)| self.wake_key(row, *head))
+            .min()
     }
-}
-
-// The earliest release or effective due instant after the present instant, over the sessions with a usable head run.
-pub fn wake_up(tables: &Tables, heads: &[Option<Head>; 64], present: Instant) -> Option<u64>
-    ensures is { result ≡ wake_at tables.now (run_at heads.now) present.micros }
-    ensures right { RightWake (record { tables = tables.entry.now; heads = run_at heads.now; micros = present.micros }) result }
-{
-    let mut times = [None; 64];
-    for place in 0..64 {
-        times[place] = wake_key(tables, heads, present, place);
-    }
-    least_key(&times)
 }

@@ -12,9 +12,6 @@ each_one (x ∷ xs) = let s = sum_by-cons (λ _. 1) x xs in let h = each_one xs 
 pub same_length : {X : Type 0} (xs ys : List X) → Same xs ys → length xs ≡ length ys
 same_length xs ys h = sym (each_one xs) ∙ (h (λ _. 1) ∙ each_one ys)
 
-pub same_from_eq : {X : Type 0} (xs ys : List X) → xs ≡ ys → Same xs ys
-same_from_eq xs ys e weight = ap (sum_by weight) e
-
 -- one taken out, and the others
 pub same_removed : {X : Type 0} (xs : List X) (i : ℕ) (x : X) → i < length xs → x ≡ get_or xs i x → Same xs (x ∷ remove xs i)
 same_removed xs i x lt is weight =

@@ -1,5 +1,5 @@
 -- A bay's runs, and exactly what its calls do to them, order included.
-use Rattle.std.specs.Prelude.{◌≡◌, ℕ, ◌<◌, [], ◌∷◌, ◌++◌, length, take, slice_index_or}
+use Rattle.std.specs.Prelude.{◌≡◌, ℕ, ◌<◌, [], ◌∷◌, ◌++◌, length, slice_index_or}
 use Rattle.std.specs.List.{remove}
 use Rattle.values.specs.declared.io.Run.{Run}
 use Rattle.device.specs.declared.bay.Bay.{Bay}
@@ -7,7 +7,7 @@ use Rattle.device.specs.Meaning.{Meaning}
 
 -- the runs at work in the order of putting, and those done in the order of being done
 abbrev pub bay_means : Bay → Meaning
-bay_means b = record { working = take b.working b.at_work; done = take b.finished b.done; depth = b.depth }
+bay_means b = record { working = b.at_work; done = b.done; depth = b.depth }
 
 -- a run joined those at work, behind the others
 abbrev pub joined : Meaning → Run → Meaning

@@ -1,6 +1,6 @@
-ghost use Rattle.std.specs.Prelude.{◌≡◌, ◌+◌, ◌≤◌, length};
+ghost use Rattle.std.specs.Prelude.{◌+◌, ◌≤◌, length};
 
-use values::io::Run;
+use crate::runs::Runs;
 
 pub mod moves;
 
@@ -8,14 +8,10 @@ pub mod moves;
 // those at work in the order of putting, and those done in the order of being done.
 #[derive(Drop)]
 pub struct Bay {
-    at_work: [Run; 32],
-    working: usize,
-    done: [Run; 32],
-    finished: usize,
+    at_work: Runs,
+    done: Runs,
     depth: usize,
-    ghost few: { working + finished ≤ depth },
+    ghost few: { length at_work + length done ≤ depth },
     ghost deep: { 1 ≤ depth },
     ghost fits: { depth ≤ 32 },
-    ghost wide: { length at_work ≡ 32 },
-    ghost long: { length done ≡ 32 },
 }

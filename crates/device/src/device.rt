@@ -1,8 +1,26 @@
-ghost use Rattle.std.specs.Prelude.{◌≡◌, ℕ, ◌≤◌, [], MatchBool, Option, MatchOption};
+ghost use Rattle.std.specs.Prelude.{◌≡◌, ℕ, ◌≤◌, [], Option, MatchOption, MatchResult};
 ghost use Rattle.device.specs.Meaning.{Meaning, held_by, Put, Worked, Took};
 ghost use Rattle.values.specs.declared.io.Run.{Run};
 
+use std::error::Error;
+use std::fmt;
 use values::io::Run;
+
+// A device holds its depth already, and takes no run more.
+#[derive(Clone, Copy, Debug, PartialEq, Eq)]
+pub struct DeviceFull;
+
+impl fmt::Display for DeviceFull {
+    ghost use Rattle.std.specs.Prelude.{Some, codes};
+
+    ghost output = { λ _. Some (codes "the device holds as many runs as its depth") };
+
+    fn fmt<W: fmt::Write>(&self, f: &mut fmt::Formatter<W>) -> fmt::Result {
+        f.write_str("the device holds as many runs as its depth")
+    }
+}
+
+impl Error for DeviceFull {}
 
 // A device, by what it means: runs at work and runs done, whose order is of no account, and a fixed depth.
 // A device may come with runs inside, even with more than its depth. Open in the meaning are which runs `work` moves and
@@ -26,9 +44,9 @@ pub trait Device {
         ensures { result ≡ held_by (means self.now) };
 
     // Adds a run to those at work; refused, and then nothing moves, exactly where the depth is held already.
-    fn put(&mut self, run: Run) -> bool
-        ensures meant { MatchBool result (Put (means self.old) run (means self.new)) ((means self.old).depth ≤ held_by (means self.old)) }
-        ensures exact { MatchBool result (puts self.old run self.new) (self.new ≡ self.old) };
+    fn put(&mut self, run: Run) -> Result<(), DeviceFull>
+        ensures meant { MatchResult result (λ _. Put (means self.old) run (means self.new)) (λ _. (means self.old).depth ≤ held_by (means self.old)) }
+        ensures exact { MatchResult result (λ _. puts self.old run self.new) (λ _. self.new ≡ self.old) };
 
     // Moves some runs, perhaps none, from at work to done; how many.
     fn work(&mut self) -> usize

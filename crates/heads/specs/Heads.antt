@@ -1,5 +1,5 @@
 -- A session's head run: its first waiting I/O, and then its next ones as long as they adjoin.
-use Rattle.std.specs.Prelude.{◌≡◌, ℕ, ◌+◌, ◌<◌, Bool, cond, ◌&&◌, List, [], ◌∷◌, Some, None, Option, ◌==◌, nat_le, slice_index_or}
+use Rattle.std.specs.Prelude.{◌≡◌, ℕ, ◌+◌, ◌<◌, Bool, if◌then◌else◌, ◌&&◌, List, [], ◌∷◌, Some, None, Option, ◌==◌, nat_le, slice_index_or}
 use Rattle.std.specs.Option.{option_map}
 use Rattle.values.specs.Direction.{direction_number}
 use Rattle.values.specs.declared.io.Io.{Io}
@@ -15,7 +15,7 @@ pub record HeadRun : Type 0 where
 -- the I/Os of one session, in their order
 abbrev pub of_session : ℕ → List Io → List Io
 of_session name [] = []
-of_session name (io ∷ ios) = cond (io.session == name) (io ∷ of_session name ios) (of_session name ios)
+of_session name (io ∷ ios) = if io.session == name then io ∷ of_session name ios else of_session name ios
 
 -- an I/O of the same direction that begins where a run ends, and at most 64 sectors together
 abbrev pub joins : HeadRun → Io → Bool
@@ -31,7 +31,7 @@ longer h io = record { count = h.count + 1; direction = h.direction; address = h
 -- a run with the next I/Os, as long as they join
 abbrev pub grow : HeadRun → List Io → HeadRun
 grow h [] = h
-grow h (io ∷ ios) = cond (joins h io) (grow (longer h io) ios) h
+grow h (io ∷ ios) = if joins h io then grow (longer h io) ios else h
 
 abbrev pub grown : List Io → Option HeadRun
 grown [] = None
@@ -44,7 +44,7 @@ head_of name waiting = grown (of_session name waiting)
 -- a run so far with one I/O more of its session; none if the I/O does not join it
 abbrev pub with_one : Option HeadRun → Io → Option HeadRun
 with_one None io = Some (alone io)
-with_one (Some h) io = cond (joins h io) (Some (longer h io)) None
+with_one (Some h) io = if joins h io then Some (longer h io) else None
 
 -- what a head stands for
 abbrev pub head_says : Head → HeadRun
@@ -64,7 +64,7 @@ head_for (Some name) waiting = head_of name waiting
 -- what a place ends with: the run so far and, while it can grow, the I/Os behind it
 abbrev pub finally : Option HeadRun → Bool → Option ℕ → List Io → Option HeadRun
 finally h grows None ios = h
-finally h grows (Some name) ios = cond grows (onward h (of_session name ios)) h
+finally h grows (Some name) ios = if grows then onward h (of_session name ios) else h
 
 -- each of the 64 places has the head run of its session
 abbrev pub HeadsOf : List (Option ℕ) → List Io → List (Option Head) → Type 0

@@ -4,11 +4,10 @@ use Rattle.scheduling.specs.Scheduling.{Sent, Chain, none, more, latest_at, acce
 use Rattle.scheduling.specs.declared.answer.Scheduled.{Scheduled}
 use Rattle.service.specs.Calls.{Place, pool_place, open_place, place_for}
 use Rattle.service.specs.Moments.{Moment, makes_pool, opens, arrives, ends, closes, collects, Call as ServiceCall, Answer as ServiceAnswer, Leads as ServiceLeads}
-use Rattle.service.specs.Rows.{first_fit, reserves_made}
+use Rattle.service.specs.Rows.{first_fit, reserves_made, FreePlace}
 use Rattle.service.specs.Faults.{refused}
 use Rattle.service.specs.declared.fault.ServiceFault.{ServiceFault}
 use Rattle.service.specs.declared.fault.ServiceWhy.TheVariants.{InstantBefore, NoPlace, NoReserve, NoSuchPool}
-use Rattle.service.specs.declared.find.Wanted.TheVariants.{FreePlace}
 use Rattle.service.specs.declared.rows.Tables.{Tables}
 use Rattle.std.proofs.lemmas.Bool.{le-ltb, ltb-false, cond-false}
 use Rattle.usage.specs.declared.ServiceRecord.{ServiceRecord}

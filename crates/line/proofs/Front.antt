@@ -1,7 +1,9 @@
 -- A table whose front is being closed up: the records kept so far stand in its first places.
 use Rattle.std.proofs.Common.{◌≡◌, ℕ, zero, suc, ◌+◌, ◌-◌, ◌<◌, ◌≤◌, Bool, true, false, cond, List, [], ◌∷◌, ◌++◌, length, get_or, take, drop, set, sym, refl, ap, ◌∙◌, subst, add-one, arith}
-use Rattle.std.specs.List.{remove}
-use Rattle.std.proofs.lemmas.List.{append-nil, append_assoc, length-set, length-take-le, take-append-drop, take_more, take_more_set, take-take, drop_all, drop-append-le, drop-set-lt, get_or-drop, drop-drop, take_all}
+use Rattle.std.specs.List.{remove, copy_within}
+use Rattle.std.proofs.lemmas.List.{append-nil, length-set, length-take-le, take-append-drop, take_more, take_more_set, take-take, drop-set-lt, get_or-drop, drop-drop, drop-take, length-drop}
+use Rattle.std.proofs.lemmas.List.Edits.{take-paste}
+use Rattle.std.proofs.Math.Seq.{drop-paste, length-paste}
 use Rattle.line.specs.Line.{unflagged, Closed}
 
 -- ys began as xs: its first k places hold what is kept, and every place from k on is as it was
@@ -72,37 +74,23 @@ module _ {X : Type 0} (flags : List Bool) {xs ys : List X} {k i : ℕ} (h : Fron
   pub front_stays : (r : X) → get_or flags i false ≡ false → Front (unflagged flags (take (i + 1) xs)) xs (set ys k (get_or ys i r)) (k + 1)
   front_stays r e = front_is (front_more h (get_or ys i r) (omega arith)) (decided r e)
 
--- nothing moved up yet: the records before `at`
-pub front_before : {X : Type 0} (xs : List X) (at : ℕ) → at < length xs → Front (remove (take (at + 1) xs) at) xs xs at
-front_before xs at lt =
-    let le : at ≤ at + 1 = omega arith in
-    let many : length (take (at + 1) xs) ≤ suc at = omega (arith, length-take-le (at + 1) xs (omega arith)) in
-    let e : take at xs ≡ remove (take (at + 1) xs) at = sym ((λ t. take-take at (at + 1) xs le t ++ drop_all (suc at) (take (at + 1) xs) many t) ∙ append-nil (take at xs)) in
-    record { held = e; rest = refl; long = refl }
-
--- the record behind i moved up to i
-pub front_up : {X : Type 0} {xs ys : List X} {at i : ℕ} → Front (remove (take (i + 1) xs) at) xs ys i → at ≤ i → i + 1 < length xs → (r : X) → Front (remove (take (i + 1 + 1) xs) at) xs (set ys i (get_or ys (i + 1) r)) (i + 1)
-front_up {X} {xs} {ys} {at} {i} h le lt r =
-    let a : at ≤ i + 1 = omega arith in
-    let b : at ≤ i + 1 + 1 = omega arith in
-    let many : suc at ≤ length (take (i + 1) xs) = omega (arith, length-take-le (i + 1) xs (omega arith)) in
-    let read : get_or ys (i + 1) r ≡ get_or xs (i + 1) r = front_read h (i + 1) r (omega arith) in
-    let fronts : take at (take (i + 1) xs) ≡ take at (take (i + 1 + 1) xs) = take-take at (i + 1) xs a ∙ sym (take-take at (i + 1 + 1) xs b) in
-    let backs : drop (suc at) (take (i + 1) xs) ++ get_or xs (i + 1) r ∷ [] ≡ drop (suc at) (take (i + 1 + 1) xs) = sym (ap (drop (suc at)) (take_more xs (i + 1) r lt) ∙ drop-append-le (suc at) (take (i + 1) xs) (get_or xs (i + 1) r ∷ []) many) in
-    front_is (front_more h (get_or ys (i + 1) r) (omega arith)) (append_assoc (take at (take (i + 1) xs)) (drop (suc at) (take (i + 1) xs)) (get_or ys (i + 1) r ∷ []) ∙ ((λ t. fronts t ++ (drop (suc at) (take (i + 1) xs) ++ read t ∷ [])) ∙ ap (λ l. take at (take (i + 1 + 1) xs) ++ l) backs))
-
--- all moved up: the record that stood at `at` is out
-pub front_up_all : {X : Type 0} {xs ys : List X} {n i : ℕ} (at : ℕ) → Front (remove (take (i + 1) xs) at) xs ys i → i + 1 ≡ n → n ≤ length xs → Closed (remove (take n xs) at) xs ys (n - 1)
-front_up_all {X} {xs} {ys} {n} {i} at h e le =
-    let m : i ≡ n - 1 = omega arith in
-    subst (λ k. Closed (remove (take n xs) at) xs ys k) m (front_closed (front_is h (ap (λ k. remove (take k xs) at) e)) (omega arith))
-
--- no record stands at `at`, so all are left
-pub front_past : {X : Type 0} (xs : List X) (n at : ℕ) → n ≤ at → n ≤ length xs → Closed (remove (take n xs) at) xs xs n
-front_past xs n at past le =
-    let many : length (take n xs) ≡ n = length-take-le n xs le in
-    let all : take n xs ≡ remove (take n xs) at = sym ((λ t. take_all at (take n xs) (omega arith) t ++ drop_all (suc at) (take n xs) (omega arith) t) ∙ append-nil (take n xs)) in
-    front_closed (front_is (record { held = refl; rest = refl; long = refl }) all) le
+-- the records behind `at` are copied one place up: the record that stood there is out
+pub front_copied : {X : Type 0} (xs : List X) (n at : ℕ) → at < n → n ≤ length xs → Closed (remove (take n xs) at) xs (copy_within xs (at + 1) n at) (n - 1)
+front_copied {X} xs n at lt le =
+    let m : ℕ = n - (at + 1) in
+    let back : List X = drop (at + 1) xs in
+    let few : m ≤ length back = omega (arith, length-drop (at + 1) xs) in
+    let end : at + m ≡ n - 1 = omega arith in
+    let all : n ≡ at + 1 + m = omega arith in
+    let behind : drop (at + 1) (take n xs) ≡ take m back = ap (λ k. drop (at + 1) (take k xs)) all ∙ drop-take (at + 1) m xs in
+    let same : drop (suc at) (take n xs) ≡ drop (at + 1) (take n xs) = ap (λ k. drop k (take n xs)) (sym (add-one at)) in
+    let kept : take at xs ++ take m back ≡ remove (take n xs) at = (λ t. sym (take-take at n xs (omega arith)) t ++ sym (same ∙ behind) t) in
+    let moved : Front (take at xs ++ take m back) xs (copy_within xs (at + 1) n at) (at + m) = record {
+      held = take-paste xs at back m (omega arith) few;
+      rest = drop-paste xs at back m (omega arith) few;
+      long = length-paste xs at back m (omega arith) few;
+    } in
+    subst (λ k. Closed (remove (take n xs) at) xs (copy_within xs (at + 1) n at) k) end (front_closed (front_is moved kept) (omega arith))
 
 -- no record is decided yet
 pub flags_none : {X : Type 0} (flags : List Bool) (xs : List X) → Front (unflagged flags []) xs xs 0

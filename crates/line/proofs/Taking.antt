@@ -27,9 +27,6 @@ pub record Taking {X : Type 0} (owner : X → ℕ) (name count end : ℕ) (xs ys
   pub gives : take k ys ++ without owner name left (drop i (take end xs)) ≡ without owner name count (take end xs)
   pub behind : k ≤ i
 
-pub taking_none : {X : Type 0} (owner : X → ℕ) (name count end : ℕ) (xs : List X) → Taking owner name count end xs xs 0 count 0
-taking_none owner name count end xs = record { front = record { held = refl; rest = refl; long = refl }; gives = refl; behind = omega arith }
-
 module _ {X : Type 0} {owner : X → ℕ} {name count end : ℕ} {xs ys : List X} {k left i : ℕ} (h : Taking owner name count end xs ys k left i) where
   pub taking_all : end ≤ i → end ≤ length xs → k ≤ length xs → Closed (without owner name count (take end xs)) xs ys k
   taking_all le fit few =

@@ -4,7 +4,12 @@ ghost use Rattle.std.specs.Prelude.{◌≡◌, ℕ, ◌+◌, ◌<◌, ◌≤◌,
 ghost use Rattle.std.specs.List.{remove};
 ghost use Rattle.line.specs.Line.{records_of, unflagged, Appended, Closed, Removed, AppendedAt, RemovedAt, without};
 
+// Refused: no place of the table is left.
+#[derive(Clone, Copy, Debug, PartialEq, Eq)]
+pub struct LineFull;
+
 // A line of records over a table that the caller lends: the first `len` places, never more than the table has.
+// Each method says that the table is still the same one (`same`): that compares two moments, which no ghost field or model can say.
 #[derive(Drop)]
 pub struct Line<'a, T> {
     places: &'a mut [T],
@@ -43,18 +48,18 @@ impl<'a, T: Copy> Line<'a, T> {
         &self.places[..self.len]
     }
 
-    // Puts a record behind the last one; false, and nothing changed, where the table is full.
-    pub fn append(&mut self, record: T) -> bool
+    // Puts a record behind the last one; refused, and nothing changed, where the table is full.
+    pub fn append(&mut self, record: T) -> Result<(), LineFull>
         ensures same { self.new.places.ghost_name ≡ self.old.places.ghost_name }
         ensures held { Appended self.old.places.now self.old.len «record» self.new.places.now self.new.len result }
     {
         let at = self.len;
         if at >= self.places.len() {
-            return false;
+            return Err(LineFull);
         }
         self.places[at] = record;
         self.len = at + 1;
-        true
+        Ok(())
     }
 
     // Takes out each record whose flag is set and keeps the order of the rest, in one pass; a record with no flag stays.
@@ -85,6 +90,7 @@ impl<'a, T: Copy> Line<'a, T> {
         ensures held { Closed (unflagged out.now (records_of self.old.places.now self.old.len)) self.old.places.now self.new.places.now result }
     {
         let mut kept_len = 0;
+        // By places, since the loop writes the slice that it reads.
         for i in 0..self.len {
             if !is_set(out, i) {
                 self.places[kept_len] = self.places[i];
@@ -103,11 +109,8 @@ impl<'a, T: Copy> Line<'a, T> {
         if at >= self.len {
             return self.len;
         }
-        let last = self.len - 1;
-        for i in at..last {
-            self.places[i] = self.places[i + 1];
-        }
-        last
+        self.places.copy_within(at + 1..self.len, at);
+        self.len - 1
     }
 }
 
@@ -140,6 +143,8 @@ impl<'a, T: Owned + Copy> Line<'a, T> {
     {
         let mut left = count;
         let mut kept_len = 0;
+        // By places, since the loop writes the slice that it reads.
+        // Not one function with `keep_unflagged`: the test would be a closure that counts down, and a proof learns nothing of its answers.
         for i in 0..end {
             let record = self.places[i];
             let by = record.owned_by();
@@ -158,15 +163,15 @@ impl<'a, T: Owned + Copy> Line<'a, T> {
 fn is_set(flags: &[bool], at: usize) -> bool
     ensures { result ≡ slice_index_or flags.now at false }
 {
-    at < flags.len() && flags[at]
+    flags.get(at).copied().unwrap_or(false)
 }
 
-// Puts a record behind the first `len` of a table, which may be an array inside a struct; false, and nothing changed, where it has no place there.
-pub fn append_at<T: Copy>(places: &mut [T], len: usize, record: T) -> bool
+// Puts a record behind the first `len` of a table, which may be an array inside a struct; refused, and nothing changed, where it has no place there.
+pub fn append_at<T: Copy>(places: &mut [T], len: usize, record: T) -> Result<(), LineFull>
     ensures { AppendedAt places.old len «record» places.new result }
 {
     if places.len() <= len {
-        return false;
+        return Err(LineFull);
     }
     let mut line = Line::new(places, len);
     line.append(record)

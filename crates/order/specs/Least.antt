@@ -1,5 +1,5 @@
 -- The least key of a line of keys.
-use Rattle.std.specs.Prelude.{◌≡◌, ℕ, suc, ◌<◌, Bool, true, false, cond, List, [], ◌∷◌, length, Some, None, Option, slice_index_or}
+use Rattle.std.specs.Prelude.{◌≡◌, ℕ, suc, ◌<◌, Bool, true, false, if◌then◌else◌, List, [], ◌∷◌, length, Some, None, Option, slice_index_or}
 use Rattle.std.specs.List.{IsFirstBest}
 
 -- the place of the least key: none exactly if there are no keys; else no key goes before it, and it goes before each key that stands earlier in line
@@ -36,7 +36,7 @@ one_place_on (Some p) = Some (suc p.0, p.1)
 -- of the key in front and the least of those behind it, the one that goes first; a tie goes to the front
 abbrev pub front_or : {X : Type 0} → (X → X → Bool) → X → Option (ℕ × X) → ℕ × X
 front_or before x None = (0, x)
-front_or before x (Some p) = cond (before p.1 x) p (0, x)
+front_or before x (Some p) = if before p.1 x then p else (0, x)
 
 -- the least candidate, with its place
 abbrev pub least_of : {X : Type 0} → (X → X → Bool) → List (Option X) → Option (ℕ × X)

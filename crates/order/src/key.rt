@@ -23,6 +23,7 @@ pub trait NamedKey: Key {
     ghost apart: { TiesShareName Self.Key.before name };
 }
 
+// By std's order. (One impl for all that std orders would overlap those of an Option and of a pair.)
 impl Key for u64 {
     ghost before = { nat_lt };
 
@@ -33,7 +34,7 @@ impl Key for u64 {
     }
 }
 
-// A key that may be missing goes last where it is.
+// A key that may be missing goes last where it is. By hand, since the order of an Option has none first.
 impl<K: Key> Key for Option<K> {
     ghost before = { missing_last K.Key.before };
 
@@ -48,7 +49,7 @@ impl<K: Key> Key for Option<K> {
     }
 }
 
-// A pair goes by its first part, and where that ties by its second.
+// A pair goes by its first part, and where that ties by its second. By hand, since its parts are keys with an order of their own.
 impl<First: Key, Second: Key> Key for (First, Second) {
     ghost before = { then_by First.Key.before Second.Key.before };
 

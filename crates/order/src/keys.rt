@@ -10,20 +10,21 @@ pub struct DueMark {
     pub number: u64,
 }
 
-// A sharing rule's level, with the number of the pool or the name of the session that has it.
-#[derive(Clone, Copy)]
+// A sharing rule's level, with the number of the pool or the name of the session that has it: ordered by the level first.
+#[derive(Clone, Copy, PartialEq, Eq, PartialOrd, Ord)]
 pub struct Level {
     pub level: u64,
     pub name: u32,
 }
 
-// How far a disk arm goes to a run, with the run's place in the order of putting.
-#[derive(Clone, Copy)]
+// How far a disk arm goes to a run, with the run's place in the order of putting: ordered by the way first.
+#[derive(Clone, Copy, PartialEq, Eq, PartialOrd, Ord)]
 pub struct Distance {
     pub sectors: u32,
     pub place: usize,
 }
 
+// By hand: never is later than every instant, where the order of an Option has none first.
 impl Key for DueMark {
     ghost before = { mark_before };
 
@@ -31,7 +32,7 @@ impl Key for DueMark {
 
     fn goes_before(&self, other: &DueMark) -> bool {
         match (self.at, other.at) {
-            (Some(x), Some(y)) => x < y || (x == y && self.number < other.number),
+            (Some(x), Some(y)) => (x, self.number) < (y, other.number),
             (Some(_), None) => true,
             (None, Some(_)) => false,
             (None, None) => self.number < other.number,
@@ -45,13 +46,14 @@ impl NamedKey for DueMark {
     ghost apart = { Prim.search rules };
 }
 
+// By the derived order.
 impl Key for Level {
     ghost before = { level_before };
 
     ghost ranks = { Prim.search rules };
 
     fn goes_before(&self, other: &Level) -> bool {
-        self.level < other.level || (self.level == other.level && self.name < other.name)
+        self < other
     }
 }
 
@@ -61,13 +63,14 @@ impl NamedKey for Level {
     ghost apart = { Prim.search rules };
 }
 
+// By the derived order.
 impl Key for Distance {
     ghost before = { distance_before };
 
     ghost ranks = { Prim.search rules };
 
     fn goes_before(&self, other: &Distance) -> bool {
-        self.sectors < other.sectors || (self.sectors == other.sectors && self.place < other.place)
+        self < other
     }
 }
 

@@ -11,11 +11,10 @@ use Rattle.service.proofs.Sounding.{Kin}
 use Rattle.service.specs.Calls.{Place, pool_place, pool_made, session_opened, with_sessions, open_place, place_for, arrival_place, arrival_at, arrived, accepted_row, ended, ended_row, close_place, close_at, closed, handed_row, hand_back_at, hand_back}
 use Rattle.service.specs.Faults.{refused}
 use Rattle.service.specs.Moments.{Moment, full_at}
-use Rattle.service.specs.Rows.{session, pool, free_place, first_fit, is_open, is_present, reserves_in, reserves_made}
+use Rattle.service.specs.Rows.{session, pool, free_place, first_fit, is_open, is_present, reserves_in, reserves_made, OpenAs, EndedAs, PresentAs, FreePlace}
 use Rattle.service.specs.Sound.{Sound, Present, Made, name_at, session_number, pool_number, Below, Apart, Numbers}
 use Rattle.service.specs.declared.fault.ServiceFault.{ServiceFault}
 use Rattle.service.specs.declared.fault.ServiceWhy.TheVariants.{InstantBefore, NoSuchPool, NoSuchSession, NoPlace, NoReserve, WaitingLineFull, CountedOut, NotHandedBack}
-use Rattle.service.specs.declared.find.Wanted.TheVariants.{OpenAs, EndedAs, PresentAs, FreePlace}
 use Rattle.service.specs.declared.rows.HandedBack.{HandedBack}
 use Rattle.service.specs.declared.rows.Session.{Session}
 use Rattle.service.specs.declared.rows.State.{State}

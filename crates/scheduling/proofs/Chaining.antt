@@ -1,10 +1,11 @@
 -- Send after send: what the loop keeps.
-use Rattle.std.proofs.Common.{◌≡◌, ℕ, ◌+◌, min, Bool, cond, List, [], ◌∷◌, ◌++◌, length, sum_by, sym, refl, ap, ◌∙◌, arith}
-use Rattle.device.specs.Meaning.{Meaning, Same, held_by, Put}
+use Rattle.std.proofs.Common.{◌≡◌, ℕ, ◌+◌, ◌≤◌, min, Bool, true, false, cond, List, [], ◌∷◌, ◌++◌, sym, refl, ap, ◌∙◌, arith}
+use Rattle.device.proofs.Collections.{same_length}
+use Rattle.device.specs.Meaning.{Meaning, held_by, Put}
 use Rattle.service.specs.Moments.{Moment}
 use Rattle.service.specs.Sound.{Numbers}
+use Rattle.std.specs.Int.{from_bool}
 use Rattle.std.proofs.lemmas.List.{length-append}
-use Rattle.std.proofs.lemmas.List.Sums.{sum_by-cons}
 use Rattle.usage.specs.declared.ServiceRecord.{ServiceRecord}
 use Rattle.values.specs.declared.io.Io.{Io}
 use Rattle.values.specs.declared.io.Run.{Run}
@@ -12,14 +13,6 @@ use Rattle.scheduling.proofs.Sounding.{sends_stay_sound_lem}
 use Rattle.scheduling.specs.Exact.{PastKept, OneSent, SentSoFar}
 use Rattle.scheduling.specs.Scheduling.{none, more}
 use Rattle.scheduling.specs.Sending.{most_runs}
-
--- collections that are the same have as many elements
-count_is : {X : Type 0} (xs : List X) → sum_by (λ x. 1) xs ≡ length xs
-count_is [] = refl
-count_is (x ∷ xs) = sum_by-cons (λ x. 1) x xs ∙ omega (arith, count_is xs)
-
-same_length : {X : Type 0} (xs ys : List X) → Same xs ys → length xs ≡ length ys
-same_length xs ys e = sym (count_is xs) ∙ (e (λ x. 1) ∙ count_is ys)
 
 -- a put adds one run
 put_one : (m : Meaning) (run : Run) (n : Meaning) → Put m run n → held_by n ≡ held_by m + 1
@@ -64,6 +57,15 @@ module _ {D : Type 0} (puts : D → Run → D → Type 0) (level : ServiceRecord
 -- the same under another name for the count of due sends
 pub as_counted : {D : Type 0} {puts : D → Run → D → Type 0} {level : ServiceRecord → ℕ} {m n : Moment} {d e : D} {sent due due' : ℕ} → SentSoFar puts level m n d e sent due → due ≡ due' → SentSoFar puts level m n d e sent due'
 as_counted s is = record { sends = s.sends; chain = s.chain; sent_is = s.sent_is; due_is = sym is ∙ s.due_is; in_order = s.in_order }
+
+-- what a send adds to the count of due sends
+pub record Counted (was_due : Bool) (one : ℕ) : Type 0 where
+  pub is : cond {A = ℕ} was_due 1 0 ≡ one
+  pub at_most : one ≤ 1
+
+pub counted : (was_due : Bool) (one : ℕ) → one ≡ from_bool was_due → Counted was_due one
+counted true one e = record { is = sym e; at_most = omega (arith, e) }
+counted false one e = record { is = sym e; at_most = omega (arith, e) }
 
 pub past_twice : (xs ys zs : List Io) → PastKept xs ys → PastKept ys zs → PastKept xs zs
 past_twice xs ys zs p q = (q.0 ∙ p.0, q.1 ∙ p.1)

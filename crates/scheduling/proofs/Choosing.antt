@@ -1,5 +1,5 @@
 -- What the choice of a send says of the session chosen and of its head run.
-use Rattle.std.proofs.Common.{◌≡◌, ℕ, ◌<◌, ◌≤◌, Bool, true, false, cond, ◌&&◌, ltb, leb, List, [], ◌∷◌, Some, None, MatchBool, Option, sym, ap, subst, arith}
+use Rattle.std.proofs.Common.{◌≡◌, ℕ, ◌≤◌, Bool, true, false, cond, ◌&&◌, ltb, leb, List, [], ◌∷◌, Some, None, MatchBool, Option, sym, ap, subst, arith}
 use Rattle.choosing.proofs.Passing.{never, there, one, passed}
 use Rattle.choosing.proofs.Rightly.{is_right, sendable}
 use Rattle.choosing.specs.Chosen.{chosen}
@@ -11,7 +11,7 @@ use Rattle.heads.specs.Heads.{HeadRun, head_for, head_of, of_session, grow, grow
 use Rattle.service.specs.Moments.{Moment}
 use Rattle.service.specs.Rows.{session, is_present}
 use Rattle.service.specs.declared.rows.Session.{Session}
-use Rattle.std.proofs.lemmas.Bool.{and_parts, leb-true, ltb-true}
+use Rattle.std.proofs.lemmas.Bool.{and_parts, leb-true}
 use Rattle.usage.specs.declared.ServiceRecord.{ServiceRecord}
 use Rattle.values.specs.declared.io.Io.{Io}
 use Rattle.scheduling.specs.Sending.{head_at, most_runs, next_choice, used_of}
@@ -23,10 +23,6 @@ seen_at m = record { tables = m.tables; heads = head_at m; micros = m.tables.lat
 module _ (level : ServiceRecord → ℕ) (m : Moment) (c : Choice) (goes : next_choice level m ≡ Some c) where
   abbrev parts : (ltb (held_by m.device) (most_runs m) ≡ true) × (chosen level m.tables (head_at m) m.tables.latest ≡ Some c)
   parts = there (ltb (held_by m.device) (most_runs m)) (chosen level m.tables (head_at m) m.tables.latest) c goes
-
-  -- the device has room
-  pub has_room : held_by m.device < most_runs m
-  has_room = ltb-true _ _ parts.0
 
   -- the choice is right in the words of the rules, and a run can be sent from its place
   pub right_choice : RightChoice level (seen_at m) (Some c)

@@ -49,11 +49,6 @@ module _ (level : ServiceRecord → ℕ) (m : Moment) (heads : List (Option Head
 
 -- ---- what a send may count on
 
--- a usable head run is there
-pub there_is : (r : Option Head) (o : Option HeadRun) → option_map head_says r ≡ o → is_some o ≡ true → r ≡ None → ⊥
-there_is None o e some n = let z : is_some {T = HeadRun} None ≡ true = ap is_some e ∙ some in absurd (let y : ◌≡◌ {A = ℕ} 0 1 = cc in omega arith)
-there_is (Some h) o e some n = absurd (let y : ◌≡◌ {A = ℕ} 0 1 = cc in omega arith)
-
 -- the numbers cannot overflow
 pub record Bounds (t : Tables) (k count : ℕ) : Type 0 where
   pub given : t.orders < 9000000000

@@ -17,7 +17,7 @@ use Rattle.service.specs.declared.rows.Session.{Session}
 use Rattle.service.specs.declared.rows.Tables.{Tables}
 use Rattle.std.proofs.lemmas.List.{get_or-set_same, get_or-set_other}
 use Rattle.std.proofs.lemmas.List.Sums.{sum_by-set}
-use Rattle.std.proofs.lemmas.Bool.{and_parts, and_from, le-leb, ltb-false}
+use Rattle.std.proofs.lemmas.Bool.{and_from, le-leb, ltb-false}
 use Rattle.usage.specs.declared.ServiceRecord.{ServiceRecord}
 use Rattle.values.specs.declared.io.Run.{Run}
 use Rattle.scheduling.proofs.Choosing.{can_send, usable_is, head_present, head_some}
@@ -63,9 +63,6 @@ accepting t micros later lawful f = record {
 -- an account that was sent from is sound, and settled at the present instant
 sent_fits : (micros number : ℕ) (due : Bool) (a : Account) → is_sound a ≡ true → account_fits micros (sent_at micros number due a) ≡ true
 sent_fits micros number due a h = and_from (is_sound (sent_at micros number due a)) (leb micros micros) (account_laws.sent_sound micros number due a h) (le-leb micros micros (omega arith))
-
-sound_of : (latest : ℕ) (a : Account) → account_fits latest a ≡ true → is_sound a ≡ true
-sound_of latest a h = (and_parts (is_sound a) (leb a.settled_at latest) h).0
 
 module _ (t : Tables) (k : ℕ) (due : Bool) (count : ℕ) (l : k < length t.sessions) (lp : (session t k).pool < length t.pools) where
   abbrev after : Tables

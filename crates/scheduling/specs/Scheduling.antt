@@ -1,5 +1,5 @@
 -- The scheduling call: single sends, one after the other, until none can go.
-use Rattle.std.specs.Prelude.{◌≡◌, ℕ, ◌+◌, true, false, cond, List, [], ◌∷◌, length, None, Ok, Err, Result, nat_lt}
+use Rattle.std.specs.Prelude.{◌≡◌, ℕ, ◌+◌, true, false, if◌then◌else◌, List, [], ◌∷◌, length, None, Ok, Err, Result, nat_lt}
 use Rattle.choosing.specs.Wake.{wake_at}
 use Rattle.choosing.specs.declared.choose.Choice.{Choice}
 use Rattle.service.specs.Faults.{refused}
@@ -14,17 +14,7 @@ use Rattle.scheduling.specs.Sending.{next_choice, head_at, Sends}
 
 -- the tables with another latest accepted instant, and the moment with them
 abbrev pub latest_at : ℕ → Tables → Tables
-latest_at micros t = record {
-  throughput = t.throughput;
-  cap = t.cap;
-  latest = micros;
-  orders = t.orders;
-  made = t.made;
-  opened = t.opened;
-  arrivals = t.arrivals;
-  pools = t.pools;
-  sessions = t.sessions;
-}
+latest_at micros t = record t { latest = micros }
 
 abbrev pub accepted_at : ℕ → Moment → Moment
 accepted_at micros m = with_tables m (latest_at micros m.tables)
@@ -43,7 +33,7 @@ pub data Chain (level : ServiceRecord → ℕ) (m : Moment) : List Sent → Mome
 -- how many of some sends were due: chosen by effective mark
 abbrev pub due_in : List Sent → ℕ
 due_in [] = 0
-due_in (s ∷ sends) = cond s.choice.due 1 0 + due_in sends
+due_in (s ∷ sends) = (if s.choice.due then 1 else 0) + due_in sends
 
 -- An accepted scheduling call: its instant is accepted, then come its single sends until the device holds its most or no session is
 -- free to go; it answers how many there were, how many of them due, and the wake-up after the last.

@@ -1,6 +1,6 @@
 -- A single send: which session's run goes next, and what sending it leaves.
-use Rattle.std.specs.Prelude.{◌≡◌, ℕ, ◌+◌, ◌-◌, min, Bool, cond, List, take, Some, None, Option, nat_lt, slice_set}
-use Rattle.account.specs.Accounts.{sent_at}
+use Rattle.std.specs.Prelude.{◌≡◌, ℕ, ◌+◌, ◌-◌, ◌<◌, ◌≤◌, min, Bool, true, if◌then◌else◌, List, take, Some, None, Option, nat_lt, slice_set}
+use Rattle.account.specs.Accounts.{is_sound, sent_at}
 use Rattle.choosing.specs.Chosen.{chosen}
 use Rattle.choosing.specs.Free.{usable_head, is_free_to_go}
 use Rattle.choosing.specs.declared.choose.Choice.{Choice}
@@ -29,7 +29,7 @@ owner_of io = io.session
 
 -- the name of the session at a place, if one is present there
 abbrev pub present_name : Session → Option ℕ
-present_name r = cond (is_present r.state) (Some r.name) None
+present_name r = if is_present r.state then Some r.name else None
 
 -- its head run, whether or not it can be used
 abbrev pub head_at : Moment → ℕ → Option HeadRun
@@ -47,7 +47,7 @@ most_runs m = min m.device.depth m.tables.cap
 
 -- the choice among the sessions that are free to go; none if the device holds its most, or if no session is free
 abbrev pub next_choice : (ServiceRecord → ℕ) → Moment → Option Choice
-next_choice level m = cond (nat_lt (held_by m.device) (most_runs m)) (chosen level m.tables (head_at m) m.tables.latest) None
+next_choice level m = if nat_lt (held_by m.device) (most_runs m) then chosen level m.tables (head_at m) m.tables.latest else None
 
 -- ---- one send
 
@@ -60,9 +60,21 @@ pub record SentAs (r : Session) (head : HeadRun) (run : Run) : Type 0 where
   pub address_is : run.extent.address ≡ head.address
   pub length_is : run.extent.length ≡ head.length
 
+-- what a send of so many I/Os from a place asks for: a place and a pool of the tables, two sound accounts, that many I/Os accepted and
+-- not sent, a lawful latest instant, and numbers that cannot overflow
+pub record MaySend (t : Tables) (place count : ℕ) : Type 0 where
+  pub inside : place < 64
+  pub of_pool : (session t place).pool < 16
+  pub own_sound : is_sound (session t place).account ≡ true
+  pub pool_sound : is_sound (pool t (session t place).pool).account ≡ true
+  pub enough : count ≤ (session t place).unsent
+  pub lawful : t.latest ≤ 1099511627775
+  pub few : (session t place).inside + count ≤ 4000000000
+  pub given : t.orders < 9000000000
+
 -- the session's row: the account charged and re-marked, and so many I/Os inside that were not sent before
 abbrev pub sent_row : (micros number : ℕ) → Bool → (count : ℕ) → Session → Session
-sent_row micros number due count r = record { state = r.state; name = r.name; pool = r.pool; account = sent_at micros number due r.account; accepted = r.accepted; unsent = r.unsent - count; inside = r.inside + count }
+sent_row micros number due count r = record r { account = sent_at micros number due r.account; unsent = r.unsent - count; inside = r.inside + count }
 
 -- the pool's row, with the same order number
 abbrev pub sent_pool : (micros number : ℕ) → Bool → Pool → Pool
@@ -70,14 +82,8 @@ sent_pool micros number due p = record { account = sent_at micros number due p.a
 
 -- the tables after a run of so many I/Os was sent from a place, at the latest accepted instant
 abbrev pub sent_tables : Tables → (place : ℕ) → Bool → (count : ℕ) → Tables
-sent_tables t k due count = record {
-  throughput = t.throughput;
-  cap = t.cap;
-  latest = t.latest;
+sent_tables t k due count = record t {
   orders = t.orders + 1;
-  made = t.made;
-  opened = t.opened;
-  arrivals = t.arrivals;
   pools = slice_set t.pools (session t k).pool (sent_pool t.latest t.orders due (pool t (session t k).pool));
   sessions = slice_set t.sessions k (sent_row t.latest t.orders due count (session t k));
 }

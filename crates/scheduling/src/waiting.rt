@@ -20,20 +20,12 @@ pub(crate) fn used<'a>(waiting: &'a Line<'_, Io>) -> &'a [Io]
 pub(crate) fn present_name(row: &Session) -> Option<u32>
     ensures { result ≡ present_name row.now }
 {
-    if row.state.is_present() {
-        Some(row.name)
-    } else {
-        None
-    }
+    row.state.is_present().then_some(row.name)
 }
 
-// Those of all places.
+// Those of all places, beside the table in fixed memory: the scan for head runs knows names and not sessions.
 pub(crate) fn present_names(tables: &Tables) -> [Option<u32>; 64]
     ensures { (k : ℕ) → k < 64 → slice_index_or result k None ≡ present_name (session tables.now k) }
 {
-    let mut names = [None; 64];
-    for place in 0..64 {
-        names[place] = present_name(&tables.sessions[place]);
-    }
-    names
+    std::array::from_fn(|place| present_name(&tables.sessions[place]))
 }

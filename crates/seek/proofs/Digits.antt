@@ -1,9 +1,13 @@
 -- Reading a numeral from its first digit on, where all numbers from a bound on are alike.
-use Rattle.std.proofs.Common.{◌≡◌, ℕ, ◌+◌, ◌-◌, ◌*◌, ◌^◌, ◌<◌, ◌≤◌, min, true, false, cond, ◌&&◌, List, [], ◌∷◌, length, get_or, drop, Some, None, sym, refl, ap, ◌∙◌, ⊎_elim, arith}
-use Rattle.std.specs.Option.{option_map}
-use Rattle.std.proofs.lemmas.List.{drop_more, drop_all}
+use Rattle.std.proofs.Common.{◌≡◌, ℕ, ◌+◌, ◌-◌, ◌*◌, ◌^◌, ◌<◌, ◌≤◌, min, Bool, true, false, cond, ◌&&◌, List, [], ◌∷◌, length, get_or, drop, Some, None, sym, refl, ap, ◌∙◌, ⊎_elim, arith}
+use Rattle.std.proofs.lemmas.List.{drop_more}
 use Rattle.std.proofs.lemmas.Bool.{cases_lt}
-use Rattle.seek.specs.Numerals.{is_digit, all_digits, value_from, numeral}
+use Rattle.seek.specs.Numerals.{is_digit, all_digits, value_from}
+
+-- what the value of a byte says of it
+value_says : (v b : ℕ) (t : Bool) → Some v ≡ cond t (Some (b - 48)) None → (t ≡ true) × (v ≡ b - 48)
+value_says v b true e = (refl, cc)
+value_says v b false e = absurd (cc)
 
 -- the bound, and a number cut there
 abbrev pub cut : ℕ → ℕ
@@ -27,32 +31,16 @@ pub record Read (text : List ℕ) (i number : ℕ) : Type 0 where
   pub digits : all_digits text ≡ all_digits (drop i text)
   pub value : cut (value_from number (drop i text)) ≡ cut (value_from 0 text)
 
-pub read_none : (text : List ℕ) → Read text 0 0
-read_none text = record { small = omega arith; digits = refl; value = refl }
-
--- a text that has a byte is a numeral if all are digits
-numeral_of : (text : List ℕ) → (length text ≡ 0 → ⊥) → numeral text ≡ cond (all_digits text) (Some (value_from 0 text)) None
-numeral_of [] ne = absurd (ne refl)
-numeral_of (b ∷ bs) ne = refl
-
 module _ (text : List ℕ) (i number : ℕ) (lt : i < length text) (h : Read text i number) where
-  pub read_more : (next : ℕ) → is_digit (get_or text i 0) ≡ true → next ≡ min (number * 10 + (get_or text i 0 - 48)) (2 ^ 32) → Read text (i + 1) next
-  read_more next d e = record {
+  read_on : (next : ℕ) → is_digit (get_or text i 0) ≡ true → next ≡ min (number * 10 + (get_or text i 0 - 48)) (2 ^ 32) → Read text (i + 1) next
+  read_on next d e = record {
     small = omega arith;
     digits = h.digits ∙ (ap all_digits (drop_more text i 0 lt) ∙ ap (λ b. b && all_digits (drop (i + 1) text)) d);
     value = cut_early (number * 10 + (get_or text i 0 - 48)) next (drop (i + 1) text) e ∙ (sym (ap (λ l. cut (value_from number l)) (drop_more text i 0 lt)) ∙ h.value);
   }
 
-  pub read_other : is_digit (get_or text i 0) ≡ false → None ≡ option_map cut (numeral text)
-  read_other d =
-      let none : all_digits text ≡ false = h.digits ∙ (ap all_digits (drop_more text i 0 lt) ∙ ap (λ b. b && all_digits (drop (i + 1) text)) d) in
-      let some : length text ≡ 0 → ⊥ = λ e. omega arith in
-      sym (ap (option_map cut) (numeral_of text some ∙ ap (λ b. cond b (Some (value_from 0 text)) None) none))
-
-pub read_all : (text : List ℕ) (i number : ℕ) → (length text ≡ 0 → ⊥) → length text ≤ i → Read text i number → Some number ≡ option_map cut (numeral text)
-read_all text i number some le h =
-    let all : all_digits text ≡ true = h.digits ∙ ap all_digits (drop_all i text le) in
-    let v : cut number ≡ cut (value_from 0 text) = sym (ap (λ l. cut (value_from number l)) (drop_all i text le)) ∙ h.value in
-    let s = h.small in
-    let q : number ≡ cut (value_from 0 text) = (omega arith) in
-    ap Some q ∙ sym (ap (option_map cut) (numeral_of text some ∙ ap (λ b. cond b (Some (value_from 0 text)) None) all))
+  pub read_more : (digit next : ℕ) → Some digit ≡ cond (is_digit (get_or text i 0)) (Some (get_or text i 0 - 48)) None → next ≡ min (number * 10 + digit) (2 ^ 32) → Read text (i + 1) next
+  read_more digit next v m =
+      let s = value_says digit (get_or text i 0) (is_digit (get_or text i 0)) v in
+      let e : next ≡ min (number * 10 + (get_or text i 0 - 48)) (2 ^ 32) = omega (arith, m, s.1) in
+      read_on next s.0 e

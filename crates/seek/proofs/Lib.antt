@@ -1,6 +1,5 @@
 pub mod Splitting
 pub mod Digits
 pub mod Filling
-pub mod Lines
-pub mod Moving
+pub mod Reading
 pub mod Serving

@@ -1,5 +1,5 @@
 -- Turn after turn: from an empty device each turn serves one run, so that in the end each run was served once.
-use Rattle.std.proofs.Common.{◌≡◌, ℕ, ◌+◌, ◌<◌, ◌≤◌, min, List, [], ◌∷◌, ◌++◌, length, take, drop, Some, None, sum_by, Option, sym, refl, ap, ◌∙◌, subst, ⊎_elim, arith, take-add, MatchOption}
+use Rattle.std.proofs.Common.{◌≡◌, ℕ, ◌+◌, ◌<◌, ◌≤◌, min, List, [], ◌∷◌, ◌++◌, length, take, drop, Some, None, sum_by, Option, sym, refl, ap, ◌∙◌, subst, ⊎_elim, arith, drop-drop, take-add, MatchOption}
 use Rattle.std.specs.Option.{option_to_list}
 use Rattle.std.proofs.lemmas.List.{append-nil, length-append, length-drop, length-take-le, take_all, nil_from_length}
 use Rattle.std.proofs.lemmas.Bool.{cases_lt}
@@ -114,6 +114,12 @@ module _ {D : Type 0} (means : D → Meaning) (puts : D → Run → D → Type 0
     pub within : next ≤ length runs
     pub counted : held_by (means d) ≡ 0 → Counted runs i next served (means e)
 
+  -- the same, by what is left of the runs
+  pub record Turning (i : ℕ) (rest : List Run) (served : List Run) (e : D) : Type 0 where
+    pub next : ℕ
+    pub left : rest ≡ drop next runs
+    pub serving : Serving i next served e
+
   turned : (e : D) (rest : List Run) (k : ℕ) (r : Option Run) (f : D) → Turn means puts works takes e rest k r f → Turned (means e) rest k r (means f)
   turned e rest k r f t = record {
     full = means t.full;
@@ -127,12 +133,15 @@ module _ {D : Type 0} (means : D → Meaning) (puts : D → Run → D → Type 0
     took = t.took;
   }
 
-  pub serving_none : Serving 0 0 [] d
+  serving_none : Serving 0 0 [] d
   serving_none = record {
     course = start;
     within = omega arith;
     counted = λ z. record { whole = λ weight. ap (sum_by weight) (sym (nil_from_length (means d).working (omega arith))); done = nil_from_length (means d).done (omega arith); many = refl };
   }
+
+  pub turning_none : (served : List Run) → served ≡ [] → Turning 0 runs served d
+  turning_none served e = record { next = 0; left = refl; serving = subst (λ l. Serving 0 0 l d) (sym e) serving_none }
 
   -- one turn more
   module _ (i next : ℕ) (served : List Run) (e : D) (h : Serving i next served e) (lt : i < length runs) (k : ℕ) (f : D) where
@@ -143,13 +152,20 @@ module _ {D : Type 0} (means : D → Meaning) (puts : D → Run → D → Type 0
     counted_more None t z = absurd (counted_none runs i next served (means e) lt h.within (h.counted z) k (means f) (turned e (drop next runs) k None f t))
     counted_more (Some run) t z = counted_some runs i next served (means e) lt h.within (h.counted z) k run (means f) (turned e (drop next runs) k (Some run) f t)
 
-    pub serving_more : (rest : List Run) (r : Option Run) (now_served : List Run) → rest ≡ drop next runs → Turn means puts works takes e rest k r f → now_served ≡ served ++ option_to_list r → Serving (i + 1) (next + k) now_served f
+    serving_more : (rest : List Run) (r : Option Run) (now_served : List Run) → rest ≡ drop next runs → Turn means puts works takes e rest k r f → now_served ≡ served ++ option_to_list r → Serving (i + 1) (next + k) now_served f
     serving_more rest r now_served at t s =
         let t' = subst (λ l. Turn means puts works takes e l k r f) at t in
         subst (λ l. Serving (i + 1) (next + k) l f) (sym s) (record { course = turn k r h.course t'; within = put_within r t'; counted = counted_more r t' })
 
+  pub turning_more : (i : ℕ) (rest served : List Run) (e : D) → Turning i rest served e → i < length runs → (k : ℕ) (f : D) (r : Option Run) (now_rest now_served : List Run) → Turn means puts works takes e rest k r f → now_rest ≡ drop k rest → now_served ≡ served ++ option_to_list r → Turning (i + 1) now_rest now_served f
+  turning_more i rest served e h lt k f r now_rest now_served t left s = record {
+    next = h.next + k;
+    left = left ∙ (ap (drop k) h.left ∙ drop-drop k h.next runs);
+    serving = serving_more i h.next served e h.serving lt k f rest r now_served h.left t s;
+  }
+
   -- as many turns as runs
-  pub serving_all : (i next : ℕ) (served : List Run) (e : D) → i ≡ length runs → Serving i next served e → Served means puts works takes d runs served e
+  serving_all : (i next : ℕ) (served : List Run) (e : D) → i ≡ length runs → Serving i next served e → Served means puts works takes d runs served e
   serving_all i next served e all h = record {
     next = next;
     course = h.course;
@@ -167,3 +183,6 @@ module _ {D : Type 0} (means : D → Meaning) (puts : D → Run → D → Type 0
           omega arith,
         );
   }
+
+  pub turning_all : (i : ℕ) (rest served : List Run) (e : D) → i ≡ length runs → Turning i rest served e → Served means puts works takes d runs served e
+  turning_all i rest served e all h = serving_all i h.next served e all h.serving

@@ -1,5 +1,5 @@
 -- Decimal numerals, as bytes.
-use Rattle.std.specs.Prelude.{ℕ, ◌+◌, ◌-◌, ◌*◌, Bool, true, cond, ◌&&◌, List, [], ◌∷◌, Some, None, Option, nat_le}
+use Rattle.std.specs.Prelude.{ℕ, ◌+◌, ◌-◌, ◌*◌, Bool, true, if◌then◌else◌, ◌&&◌, List, [], ◌∷◌, Some, None, Option, nat_le}
 
 -- a digit, '0' to '9'
 abbrev pub is_digit : ℕ → Bool
@@ -17,4 +17,4 @@ value_from n (b ∷ bs) = value_from (n * 10 + (b - 48)) bs
 -- the number that a text spells: one digit and more, and nothing else
 abbrev pub numeral : List ℕ → Option ℕ
 numeral [] = None
-numeral (b ∷ bs) = cond (all_digits (b ∷ bs)) (Some (value_from 0 (b ∷ bs))) None
+numeral (b ∷ bs) = if all_digits (b ∷ bs) then Some (value_from 0 (b ∷ bs)) else None

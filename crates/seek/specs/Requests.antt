@@ -1,5 +1,5 @@
 -- A line of text "ADDRESS LENGTH".
-use Rattle.std.specs.Prelude.{ℕ, ◌+◌, cond, ◌&&◌, List, [], ◌∷◌, Some, None, Ok, Err, codes, Option, Result, ◌==◌, nat_le}
+use Rattle.std.specs.Prelude.{ℕ, ◌+◌, if◌then◌else◌, ◌&&◌, List, [], ◌∷◌, Some, None, Ok, Err, codes, Option, Result, ◌==◌, nat_le}
 use Rattle.seek.specs.declared.request.LineFault.{LineFault}
 use Rattle.seek.specs.declared.request.LineFault.TheVariants.{NotTwoNumbers, LengthOutOfRange, PastTheEnd}
 use Rattle.seek.specs.Numerals.{numeral}
@@ -7,17 +7,17 @@ use Rattle.seek.specs.Numerals.{numeral}
 -- the bytes before the first of a kind, and those after it
 abbrev pub before_byte : ℕ → List ℕ → List ℕ
 before_byte mark [] = []
-before_byte mark (b ∷ bs) = cond (b == mark) [] (b ∷ before_byte mark bs)
+before_byte mark (b ∷ bs) = if b == mark then [] else b ∷ before_byte mark bs
 
 abbrev pub after_byte : ℕ → List ℕ → List ℕ
 after_byte mark [] = []
-after_byte mark (b ∷ bs) = cond (b == mark) bs (after_byte mark bs)
+after_byte mark (b ∷ bs) = if b == mark then bs else after_byte mark bs
 
 -- two numbers as address and length: the first fault in this order
 abbrev pub judged : Option ℕ → Option ℕ → Result (ℕ × ℕ) LineFault
 judged None l = Err NotTwoNumbers
 judged (Some a) None = Err NotTwoNumbers
-judged (Some a) (Some l) = cond (nat_le 1 l && nat_le l 64) (cond (nat_le (a + l) 4294967295) (Ok (a, l)) (Err PastTheEnd)) (Err LengthOutOfRange)
+judged (Some a) (Some l) = if nat_le 1 l && nat_le l 64 then (if nat_le (a + l) 4294967295 then Ok (a, l) else Err PastTheEnd) else Err LengthOutOfRange
 
 -- what a line asks for: address and length
 abbrev pub requested : List ℕ → Result (ℕ × ℕ) LineFault

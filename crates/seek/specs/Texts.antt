@@ -1,10 +1,11 @@
 -- A whole text of requests, a line each.
-use Rattle.std.specs.Prelude.{ℕ, ◌+◌, ◌%◌, ◌^◌, cond, List, [], ◌∷◌, ◌++◌, Ok, Err, Result, ◌==◌}
+use Rattle.std.specs.Prelude.{ℕ, ◌+◌, ◌%◌, ◌^◌, if◌then◌else◌, List, [], ◌∷◌, ◌++◌, Ok, Err, codes, Result, ◌==◌}
+use Rattle.std.specs.Fmt.{decimal}
 use Rattle.values.specs.Direction.{direction_number}
 use Rattle.values.specs.declared.io.Run.{Run}
 use Rattle.seek.specs.declared.request.LineFault.{LineFault}
 use Rattle.seek.specs.declared.text.BadLine.{BadLine}
-use Rattle.seek.specs.Requests.{requested}
+use Rattle.seek.specs.Requests.{requested, fault_text}
 
 -- a byte in front of the first line
 abbrev pub in_front : ℕ → List (List ℕ) → List (List ℕ)
@@ -14,7 +15,7 @@ in_front b (line ∷ lines) = (b ∷ line) ∷ lines
 -- the lines of a text, without the newlines that end them
 abbrev pub lines_of : List ℕ → List (List ℕ)
 lines_of [] = []
-lines_of (b ∷ bs) = cond (b == 10) ([] ∷ lines_of bs) (in_front b (lines_of bs))
+lines_of (b ∷ bs) = if b == 10 then [] ∷ lines_of bs else in_front b (lines_of bs)
 
 -- a request in plain numbers
 pub record Request : Type 0 where
@@ -33,6 +34,10 @@ request_in n (Err f) = []
 abbrev pub fault_in : ℕ → Result (ℕ × ℕ) LineFault → List (ℕ × LineFault)
 fault_in n (Ok x) = []
 fault_in n (Err f) = (n, f) ∷ []
+
+-- what is printed of a bad line, numbered from 1
+abbrev pub bad_text : BadLine → List ℕ
+bad_text bad = codes "line " ++ decimal (bad.line + 1) ++ codes ": " ++ fault_text bad.fault
 
 -- all requests and all faults of lines that are numbered from n on
 abbrev pub requests_from : ℕ → List (List ℕ) → List Request

@@ -1,8 +1,10 @@
-ghost use Rattle.std.specs.Prelude.{◌≡◌, ℕ, ◌+◌, ◌-◌, ◌*◌, ◌^◌, ◌<◌, ◌≤◌, min, Ok, Err, MatchResult};
+ghost use Rattle.std.specs.Prelude.{◌≡◌, ℕ, ◌+◌, ◌-◌, ◌*◌, ◌^◌, ◌<◌, ◌≤◌, min, if◌then◌else◌, Some, None, Ok, Err, position, ◌==◌, MatchResult};
 ghost use Rattle.seek.specs.Numerals.{is_digit, numeral};
 ghost use Rattle.seek.specs.Requests.{before_byte, after_byte, judged, requested, fault_text};
 ghost use Rattle.std.specs.Option.{option_map};
 
+use std::error::Error;
+use std::fmt;
 use values::extent::Extent;
 
 // Why a line is no request.
@@ -27,52 +29,70 @@ impl LineFault {
     }
 }
 
-// A digit behind a number. Numbers from 4,294,967,296 on are alike, since they are past every address.
-fn with_digit(number: u64, digit: u8) -> u64
-    ensures { number ≤ 2 ^ 32 → result ≡ min (number * 10 + (digit - 48)) (2 ^ 32) }
-{
-    let value = u64::from(digit.saturating_sub(b'0'));
-    number
-        .saturating_mul(10)
-        .saturating_add(value)
-        .min(4_294_967_296)
+impl fmt::Display for LineFault {
+    ghost use Rattle.std.specs.Prelude.{Some};
+    ghost use Rattle.seek.specs.Requests.{fault_text};
+
+    ghost output = { λ fault. Some (fault_text fault) };
+
+    fn fmt<W: fmt::Write>(&self, f: &mut fmt::Formatter<W>) -> fmt::Result {
+        f.write_str(self.text())
+    }
 }
 
-fn is_digit(b: u8) -> bool
-    ensures { result ≡ is_digit b }
+impl Error for LineFault {}
+
+// The value of a digit; none where the byte is no digit.
+fn digit_value(byte: u8) -> Option<u8>
+    ensures { result ≡ (if is_digit byte then Some (byte - 48) else None) }
 {
-    b >= b'0' && b <= b'9'
+    if byte.is_ascii_digit() {
+        Some(byte - b'0')
+    } else {
+        None
+    }
+}
+
+// A digit behind a number. Numbers from 4,294,967,296 on are alike, since they are past every address.
+fn with_digit(number: u64, digit: u8) -> u64
+    ensures { number ≤ 2 ^ 32 → result ≡ min (number * 10 + digit) (2 ^ 32) }
+{
+    number
+        .saturating_mul(10)
+        .saturating_add(u64::from(digit))
+        .min(4_294_967_296)
 }
 
 // The number that a text of digits spells; none where it is no numeral.
 fn decimal(text: &[u8]) -> Option<u64>
     ensures { result ≡ option_map (λ n. min n (2 ^ 32)) (numeral text.now) }
 {
-    if text.len() == 0 {
+    if text.is_empty() {
         return None;
     }
     let mut number = 0;
-    for b in text {
-        if !is_digit(*b) {
-            return None;
-        }
-        number = with_digit(number, *b);
+    for byte in text {
+        let digit = digit_value(*byte)?;
+        number = with_digit(number, digit);
     }
     Some(number)
+}
+
+// The place of the first byte of a kind.
+fn find(text: &[u8], mark: u8) -> Option<usize>
+    ensures { result ≡ position (λ b. b == mark) text.now }
+{
+    text.iter().position(|byte| *byte == mark)
 }
 
 // The parts of a text before and after its first byte of a kind.
 pub(crate) fn split(text: &[u8], mark: u8) -> (&[u8], &[u8])
     ensures { (result.0.now ≡ before_byte mark text.now) × (result.1.now ≡ after_byte mark text.now) }
 {
-    for i in 0..text.len() {
-        if text[i] == mark {
-            let (before, rest) = text.split_at(i);
-            let (_, after) = rest.split_at(1);
-            return (before, after);
-        }
+    match find(text, mark) {
+        Some(at) => (&text[..at], &text[at + 1..]),
+        None => (text, &[]),
     }
-    (text, &text[0..0])
 }
 
 // Two numbers as address and length, or the first fault of theirs.
@@ -82,7 +102,7 @@ fn judge(address: Option<u64>, length: Option<u64>) -> Result<Extent, LineFault>
     let (Some(address), Some(length)) = (address, length) else {
         return Err(LineFault::NotTwoNumbers);
     };
-    if length < 1 || length > 64 {
+    if !(1..=64).contains(&length) {
         return Err(LineFault::LengthOutOfRange);
     }
     if address > 4_294_967_295 - length {

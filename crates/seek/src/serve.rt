@@ -3,8 +3,8 @@ ghost use Rattle.seek.specs.Courses.{Filled, Turn, Served};
 ghost use Rattle.std.proofs.Common.{rules};
 
 use device::device::Device;
-use device::elevator::Elevator;
-use device::store::LineStore;
+use device::disk::Disk;
+use device::policy::Policy;
 use std::alloc::{AllocError, Global};
 use values::io::Run;
 
@@ -13,11 +13,7 @@ pub trait Steady: Device {
     ghost steady: { (d e : Self) (count : ℕ) → Self.Device.works d count e → count ≡ min 1 (length (Self.Device.means d).working) };
 }
 
-impl Steady for LineStore {
-    ghost steady = { Prim.search rules };
-}
-
-impl Steady for Elevator {
+impl<P: Policy> Steady for Disk<P> {
     ghost steady = { Prim.search rules };
 }
 
@@ -25,9 +21,9 @@ impl Steady for Elevator {
 fn fill<D: Device>(device: &mut D, runs: &[Run]) -> usize
     ensures { Filled D.means D.puts device.old runs.now result device.new }
 {
-    for i in 0..runs.len() {
-        if !device.put(runs[i]) {
-            return i;
+    for (place, run) in runs.iter().enumerate() {
+        if device.put(*run).is_err() {
+            return place;
         }
     }
     runs.len()
@@ -51,15 +47,14 @@ fn turn<D: Device>(device: &mut D, runs: &[Run]) -> TurnDone
 }
 
 // Serves runs through a device that is kept as full as it goes, turn after turn; the runs in the order in which they came back.
-pub fn serve<D: Steady>(heap: Global, device: &mut D, runs: &[Run]) -> Result<Vec<Run>, AllocError>
+pub fn serve<D: Steady>(alloc: Global, device: &mut D, runs: &[Run]) -> Result<Vec<Run>, AllocError>
     ensures { IfOk result (λ v. Served D.Device.means D.Device.puts D.Device.works D.Device.takes device.old runs.now v.items device.new) }
 {
-    let mut served = Vec::new(heap);
-    let mut next = 0;
-    for _ in 0..runs.len() {
-        let (_, rest) = runs.split_at(next);
+    let mut served = Vec::new(alloc);
+    let mut rest = runs;
+    for _ in runs {
         let done = turn(device, rest);
-        next += done.put;
+        rest = rest.split_at(done.put).1;
         if let Some(run) = done.served {
             served.push(run)?;
         }

@@ -2,8 +2,10 @@ ghost use Rattle.std.specs.Prelude.{◌≡◌, ◌%◌, ◌^◌, ◌++◌, map, 
 ghost use Rattle.seek.specs.Requests.{requested};
 ghost use Rattle.seek.specs.Texts.{lines_of, request_in, fault_in, requests_from, faults_from, run_says, bad_says};
 
-use super::request::{LineFault, read_request, split};
+use super::lines::Lines;
+use super::request::{LineFault, read_request};
 use std::alloc::{AllocError, Global};
+use std::fmt;
 use values::direction::Direction;
 use values::extent::Extent;
 use values::io::Run;
@@ -13,6 +15,18 @@ use values::io::Run;
 pub struct BadLine {
     pub line: usize,
     pub fault: LineFault,
+}
+
+// A bad line as it is told, numbered from 1.
+impl fmt::Display for BadLine {
+    ghost use Rattle.std.specs.Prelude.{Some};
+    ghost use Rattle.seek.specs.Texts.{bad_text};
+
+    ghost output = { λ bad. Some (bad_text bad) };
+
+    fn fmt<W: fmt::Write>(&self, f: &mut fmt::Formatter<W>) -> fmt::Result {
+        write!(f, "line {}: {}", self.line as u128 + 1, self.fault)
+    }
 }
 
 // The requests of a text, in the order of their lines, and the lines that are none.
@@ -48,20 +62,15 @@ fn add_line(requests: &mut Requests, line: usize, text: &[u8]) -> Result<(), All
 }
 
 // Reads a text of requests, a line each: exactly the requests and the bad lines that it has, in their order.
-pub fn read_requests(heap: Global, text: &[u8]) -> Result<Requests, AllocError>
+pub fn read_requests(alloc: Global, text: &[u8]) -> Result<Requests, AllocError>
     ensures { IfOk result (λ q. (map run_says q.runs.items ≡ requests_from 0 (lines_of text.now)) × (map bad_says q.bad.items ≡ faults_from 0 (lines_of text.now))) }
 {
     let mut requests = Requests {
-        runs: Vec::new(heap),
-        bad: Vec::new(heap),
+        runs: Vec::new(alloc),
+        bad: Vec::new(alloc),
     };
-    let mut left = text;
-    let mut line = 0;
-    while left.len() > 0 {
-        let (this, after) = split(left, b'\n');
-        add_line(&mut requests, line, this)?;
-        left = after;
-        line += 1;
+    for (line, text) in Lines::new(text).enumerate() {
+        add_line(&mut requests, line, text)?;
     }
     Ok(requests)
 }

@@ -7,7 +7,7 @@ use values::io::Run;
 fn between(a: u32, b: u32) -> u32
     ensures { result ≡ gap a b }
 {
-    if a < b { b - a } else { a - b }
+    a.abs_diff(b)
 }
 
 // The sectors that an arm, from address 0 on, passes over to serve runs in their order.
@@ -17,7 +17,7 @@ pub fn travel(runs: &[Run]) -> u128
     let mut arm = 0;
     let mut total = 0;
     for run in runs {
-        total += between(arm, run.extent.address) as u128;
+        total += u128::from(between(arm, run.extent.address));
         arm = run.extent.end();
     }
     total

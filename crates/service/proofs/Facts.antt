@@ -8,7 +8,7 @@ use Rattle.std.proofs.lemmas.Bool.{both_ways, leb-true, leb-false, le-leb, ltb-f
 use Rattle.values.specs.declared.io.Io.{Io}
 use Rattle.values.specs.declared.io.Run.{Run}
 use Rattle.values.specs.declared.rates.Rates.{Rates}
-use Rattle.service.specs.declared.find.Wanted.TheVariants.{OpenAs, EndedAs, PresentAs, FreePlace}
+use Rattle.service.specs.Rows.{OpenAs, EndedAs, PresentAs, FreePlace, is_open, is_present, session, pool, blank_session, free_place, first_fit, counts_fit, unsent_in, reserves_made, reserves_in}
 use Rattle.service.specs.declared.fault.ServiceWhy.TheVariants.{InstantBefore, NoSuchPool, NoPlace, NoReserve, WaitingLineFull, CountedOut, NotHandedBack}
 use Rattle.service.specs.declared.fault.ServiceFault.{ServiceFault}
 use Rattle.service.specs.declared.rows.HandedBack.{HandedBack}
@@ -17,29 +17,11 @@ use Rattle.service.specs.declared.rows.State.{State}
 use Rattle.service.specs.declared.rows.State.TheVariants.{Free, Open, Ended}
 use Rattle.service.specs.declared.rows.Tables.{Tables}
 use Rattle.service.specs.Faults.{refused}
-use Rattle.service.specs.Rows.{is_open, is_present, session, pool, blank_session, free_place, first_fit, counts_fit, unsent_in, reserves_made, reserves_in}
 use Rattle.service.specs.Calls.{new_tables, pool_in, pool_call, place_for, pool_made, open_in, open_call, opened_row, session_opened, with_sessions, accepted_row, arrival_at, arrival_in, arrival_call, ended_row, end_at, end_call, close_at, close_in, close_call, handed_row, hand_back_at, hand_back, Collected}
-use Rattle.service.specs.Sound.{Sound, Counts, Numbers}
+use Rattle.service.specs.Sound.{Numbers}
 use Rattle.service.proofs.Finding.{found_within, found_fits}
 use Rattle.service.proofs.Sounding.{Kin, sound_row, sound_open, sound_pool, sound_new}
 use Rattle.service.proofs.Tables.{each_set, each_same}
-
--- the same as the type says it
-abbrev pub Ghosts : Tables → Type 0
-Ghosts t = record {
-  lawful : t.latest ≤ 1099511627775;
-  places : t.made ≤ 16;
-  openings : t.opened ≤ 4000000000;
-  few : t.arrivals ≤ 4000000000;
-  counts : Counts t.arrivals t.sessions;
-  wide : length t.sessions ≡ 64;
-  deep : length t.pools ≡ 16;
-  numbered : t.orders + unsent_in t.sessions ≤ t.arrivals + t.opened + t.made;
-  sound : ∥ Sound t ∥₁;
-}
-
-pub said : (t : Tables) → Numbers t → Ghosts t
-said t f = record { lawful = f.lawful; places = f.places; openings = f.openings; few = f.few; counts = f.counts; wide = f.wide; deep = f.deep; numbered = f.numbered; sound = f.sound }
 
 pub counts_are : (n : ℕ) (r : Session) → r.unsent + r.inside ≤ r.accepted → r.accepted ≤ n → counts_fit n r ≡ true
 counts_are n r p q = and_from (leb (r.unsent + r.inside) r.accepted) (leb r.accepted n) (le-leb _ _ p) (le-leb _ _ q)

@@ -1,22 +1,7 @@
--- Looking for the first row that fits, one row further; and what the place found is.
-use Rattle.std.proofs.Common.{◌≡◌, ℕ, suc, ◌+◌, ◌<◌, ◌≤◌, Bool, true, false, cond, List, [], ◌∷◌, length, get_or, drop, Some, None, refl, ◌∙◌, arith}
-use Rattle.std.proofs.lemmas.List.{at_drop_more, at_drop_all}
-use Rattle.std.proofs.lemmas.Bool.{cond-true, cond-false}
-use Rattle.service.specs.declared.find.Wanted.{Wanted}
+-- What the place found of the first row that fits is.
+use Rattle.std.proofs.Common.{◌≡◌, ℕ, suc, ◌+◌, ◌<◌, Bool, true, false, cond, List, [], ◌∷◌, length, get_or, Some, refl, arith}
+use Rattle.service.specs.Rows.{Wanted, blank_session, fits, first_from, first_fit}
 use Rattle.service.specs.declared.rows.Session.{Session}
-use Rattle.service.specs.Rows.{blank_session, fits, first_from, first_fit}
-
-module _ (wanted : Wanted) (xs : List Session) (i : ℕ) (d : Session) where
-  pub first_here : i < length xs → fits wanted (get_or xs i d) ≡ true → first_from wanted (drop i xs) i ≡ Some i
-  first_here l t = at_drop_more (λ ys. first_from wanted ys i) xs i d l ∙ cond-true (fits wanted (get_or xs i d)) (Some i) (first_from wanted (drop (i + 1) xs) (i + 1)) t
-
-  pub first_past : i < length xs → fits wanted (get_or xs i d) ≡ false → first_from wanted (drop i xs) i ≡ first_from wanted (drop (i + 1) xs) (i + 1)
-  first_past l t = at_drop_more (λ ys. first_from wanted ys i) xs i d l ∙ cond-false (fits wanted (get_or xs i d)) (Some i) (first_from wanted (drop (i + 1) xs) (i + 1)) t
-
-  pub first_none : length xs ≤ i → first_from wanted (drop i xs) i ≡ None
-  first_none l = at_drop_all (λ ys. first_from wanted ys i) xs i l
-
--- ---- the place found
 
 -- the row at k from the place j on is the first that fits
 abbrev Found : Wanted → List Session → ℕ → ℕ → Type 0

@@ -3,5 +3,4 @@ pub mod Tables
 pub mod Sounding
 pub mod Facts
 pub mod Reserves
-pub mod Stepping
 pub mod Lasting

@@ -1,5 +1,5 @@
 -- What each call answers and leaves, by the tables that it finds.
-use Rattle.std.specs.Prelude.{◌≡◌, ℕ, ◌+◌, ◌-◌, min, Bool, true, false, cond, List, [], length, replicate, Some, None, Ok, Err, Option, Result, ◌==◌, nat_le, nat_lt, slice_set}
+use Rattle.std.specs.Prelude.{◌≡◌, ℕ, ◌+◌, ◌-◌, min, Bool, true, false, if◌then◌else◌, List, [], length, replicate, Some, None, Ok, Err, Option, Result, ◌==◌, nat_le, nat_lt, slice_set}
 use Rattle.account.specs.Accounts.{opened}
 use Rattle.device.specs.Meaning.{Meaning, Took}
 use Rattle.values.specs.declared.io.Io.{Io}
@@ -7,13 +7,12 @@ use Rattle.values.specs.declared.io.Run.{Run}
 use Rattle.values.specs.declared.rates.Rates.{Rates}
 use Rattle.service.specs.declared.fault.ServiceFault.{ServiceFault}
 use Rattle.service.specs.declared.fault.ServiceWhy.TheVariants.{InstantBefore, NoSuchPool, NoSuchSession, NoPlace, NoReserve, WaitingLineFull, CountedOut, NotHandedBack, HandBackFull, NothingDone}
-use Rattle.service.specs.declared.find.Wanted.TheVariants.{OpenAs, EndedAs, PresentAs, FreePlace}
+use Rattle.service.specs.Rows.{OpenAs, EndedAs, PresentAs, FreePlace, session, pool, no_pool, free_place, first_fit, reserves_made, reserves_in}
 use Rattle.service.specs.declared.rows.HandedBack.{HandedBack}
 use Rattle.service.specs.declared.rows.Session.{Session}
 use Rattle.service.specs.declared.rows.State.TheVariants.{Open, Ended}
 use Rattle.service.specs.declared.rows.Tables.{Tables}
 use Rattle.service.specs.Faults.{refused}
-use Rattle.service.specs.Rows.{session, pool, no_pool, free_place, first_fit, reserves_made, reserves_in}
 
 -- a place or a number, or why the call is refused
 abbrev pub Place : Type 0
@@ -43,22 +42,17 @@ new_tables throughput most = record {
 -- its number: refused where the instant is before the latest accepted, 16 pools are made, or the reserves would exceed the throughput
 abbrev pub pool_place : ℕ → Rates → Tables → Place
 pool_place micros rates t =
-    cond (nat_lt micros t.latest) (Err (refused InstantBefore))
-    (cond (nat_le 16 t.made) (Err (refused NoPlace))
-    (cond (nat_lt t.throughput (reserves_made t + rates.reserve)) (Err (refused NoReserve))
-    (Ok t.made)))
+    if nat_lt micros t.latest then Err (refused InstantBefore)
+    else if nat_le 16 t.made then Err (refused NoPlace)
+    else if nat_lt t.throughput (reserves_made t + rates.reserve) then Err (refused NoReserve)
+    else Ok t.made
 
 abbrev pub pool_made : ℕ → Rates → Tables → ℕ → Tables
-pool_made micros rates t number = record {
-  throughput = t.throughput;
-  cap = t.cap;
+pool_made micros rates t number = record t {
   latest = micros;
   orders = t.orders + 1;
   made = t.made + 1;
-  opened = t.opened;
-  arrivals = t.arrivals;
   pools = slice_set t.pools number (record { account = opened rates micros t.orders });
-  sessions = t.sessions;
 }
 
 abbrev pub pool_in : ℕ → Rates → Tables → Place → Outcome
@@ -75,30 +69,25 @@ pool_call micros rates t = pool_in micros rates t (pool_place micros rates t)
 abbrev pub place_for : ℕ → Rates → Tables → Option ℕ → Place
 place_for number rates t None = Err (refused NoPlace)
 place_for number rates t (Some i) =
-    cond (nat_lt (pool t number).account.reserve (reserves_in number t.sessions + rates.reserve)) (Err (refused NoReserve))
-    (cond (nat_le 4000000000 t.opened) (Err (refused CountedOut))
-    (Ok i))
+    if nat_lt (pool t number).account.reserve (reserves_in number t.sessions + rates.reserve) then Err (refused NoReserve)
+    else if nat_le 4000000000 t.opened then Err (refused CountedOut)
+    else Ok i
 
 -- refused before that where the instant is before the latest accepted, or the pool was not made
 abbrev pub open_place : ℕ → ℕ → Rates → Tables → Place
 open_place micros number rates t =
-    cond (nat_lt micros t.latest) (Err (refused InstantBefore))
-    (cond (nat_le t.made number) (Err (refused NoSuchPool))
-    (place_for number rates t (first_fit FreePlace t.sessions)))
+    if nat_lt micros t.latest then Err (refused InstantBefore)
+    else if nat_le t.made number then Err (refused NoSuchPool)
+    else place_for number rates t (first_fit FreePlace t.sessions)
 
 abbrev pub opened_row : ℕ → ℕ → Rates → Tables → Session
-opened_row micros number rates t = record { state = Open; name = t.opened; pool = number; account = opened rates micros t.orders; accepted = 0; unsent = 0; inside = 0 }
+opened_row micros number rates t = record free_place { state = Open; name = t.opened; pool = number; account = opened rates micros t.orders }
 
 abbrev pub session_opened : ℕ → ℕ → Rates → Tables → ℕ → Tables
-session_opened micros number rates t i = record {
-  throughput = t.throughput;
-  cap = t.cap;
+session_opened micros number rates t i = record t {
   latest = micros;
   orders = t.orders + 1;
-  made = t.made;
   opened = t.opened + 1;
-  arrivals = t.arrivals;
-  pools = t.pools;
   sessions = slice_set t.sessions i (opened_row micros number rates t);
 }
 
@@ -113,17 +102,7 @@ open_call micros number rates t = open_in micros number rates t (open_place micr
 
 -- the tables with other sessions and another count of arrivals
 abbrev pub with_sessions : Tables → ℕ → List Session → Tables
-with_sessions t arrivals rows = record {
-  throughput = t.throughput;
-  cap = t.cap;
-  latest = t.latest;
-  orders = t.orders;
-  made = t.made;
-  opened = t.opened;
-  arrivals = arrivals;
-  pools = t.pools;
-  sessions = rows;
-}
+with_sessions t arrivals rows = record t { arrivals = arrivals; sessions = rows }
 
 -- ---- an arrival
 
@@ -135,15 +114,15 @@ line_full places len = nat_le (min (length places) 4096) len
 abbrev pub arrival_at : Bool → Tables → Option ℕ → Place
 arrival_at full t None = Err (refused NoSuchSession)
 arrival_at full t (Some i) =
-    cond full (Err (refused WaitingLineFull))
-    (cond (nat_le 4000000000 t.arrivals) (Err (refused CountedOut))
-    (Ok i))
+    if full then Err (refused WaitingLineFull)
+    else if nat_le 4000000000 t.arrivals then Err (refused CountedOut)
+    else Ok i
 
 abbrev pub arrival_place : Bool → Io → Tables → Place
 arrival_place full io t = arrival_at full t (first_fit (OpenAs io.session) t.sessions)
 
 abbrev pub accepted_row : Session → Session
-accepted_row r = record { state = r.state; name = r.name; pool = r.pool; account = r.account; accepted = r.accepted + 1; unsent = r.unsent + 1; inside = r.inside }
+accepted_row r = record r { accepted = r.accepted + 1; unsent = r.unsent + 1 }
 
 abbrev pub arrived : Tables → ℕ → Tables
 arrived t i = with_sessions t (t.arrivals + 1) (slice_set t.sessions i (accepted_row (session t i)))
@@ -163,7 +142,7 @@ LineAfter (Err fault) added places len places' len' = (places' ≡ places) × (l
 -- ---- ending
 
 abbrev pub ended_row : Session → Session
-ended_row r = record { state = Ended; name = r.name; pool = r.pool; account = r.account; accepted = r.accepted; unsent = r.unsent; inside = r.inside }
+ended_row r = record r { state = Ended }
 
 abbrev pub ended : Tables → ℕ → Tables
 ended t i = with_sessions t t.arrivals (slice_set t.sessions i (ended_row (session t i)))
@@ -181,7 +160,7 @@ end_call name t = end_at name t (first_fit (OpenAs name) t.sessions)
 -- the session's place: refused where no ended session has that name, or it has I/Os not handed back
 abbrev pub close_at : Tables → Option ℕ → Place
 close_at t None = Err (refused NoSuchSession)
-close_at t (Some i) = cond (nat_lt 0 ((session t i).unsent + (session t i).inside)) (Err (refused NotHandedBack)) (Ok i)
+close_at t (Some i) = if nat_lt 0 ((session t i).unsent + (session t i).inside) then Err (refused NotHandedBack) else Ok i
 
 abbrev pub close_place : ℕ → Tables → Place
 close_place name t = close_at t (first_fit (EndedAs name) t.sessions)
@@ -200,15 +179,16 @@ close_call name t = close_in name t (close_place name t)
 -- ---- collecting
 
 abbrev pub handed_row : ℕ → Session → Session
-handed_row count r = record { state = r.state; name = r.name; pool = r.pool; account = r.account; accepted = r.accepted; unsent = r.unsent; inside = r.inside - count }
+handed_row count r = record r { inside = r.inside - count }
 
 -- a run taken off the device, with the place of the present session of its name: foreign, and then nothing changes,
 -- where there is none or it has fewer I/Os inside
 abbrev pub hand_back_at : Run → Tables → Option ℕ → HandedBack × Tables
 hand_back_at run t None = (record { run = run; foreign = true }, t)
 hand_back_at run t (Some i) =
-    cond (nat_lt (session t i).inside run.count) (record { run = run; foreign = true }, t)
-    (record { run = run; foreign = false }, with_sessions t t.arrivals (slice_set t.sessions i (handed_row run.count (session t i))))
+    if nat_lt (session t i).inside run.count
+    then (record { run = run; foreign = true }, t)
+    else (record { run = run; foreign = false }, with_sessions t t.arrivals (slice_set t.sessions i (handed_row run.count (session t i))))
 
 abbrev pub hand_back : Run → Tables → HandedBack × Tables
 hand_back run t = hand_back_at run t (first_fit (PresentAs run.session) t.sessions)

@@ -7,12 +7,11 @@ use Rattle.values.specs.declared.io.Io.{Io}
 use Rattle.values.specs.declared.rates.Rates.{Rates}
 use Rattle.service.specs.declared.fault.ServiceFault.{ServiceFault}
 use Rattle.service.specs.declared.fault.ServiceWhy.TheVariants.{NoSuchSession}
-use Rattle.service.specs.declared.find.Wanted.TheVariants.{OpenAs}
+use Rattle.service.specs.Rows.{OpenAs, session, first_fit}
 use Rattle.service.specs.declared.rows.HandedBack.{HandedBack}
 use Rattle.service.specs.declared.rows.Tables.{Tables}
 use Rattle.service.specs.Calls.{pool_place, pool_made, open_place, session_opened, arrival_place, arrived, ended, close_place, closed, hand_back, CollectRefused}
 use Rattle.service.specs.Faults.{refused}
-use Rattle.service.specs.Rows.{session, first_fit}
 
 -- the service's tables, how many places the waiting line's table has, the records in line, and what the device means
 pub record Moment : Type 0 where

@@ -1,9 +1,8 @@
 -- The rows of the tables, and looking through them.
-use Rattle.std.specs.Prelude.{ℕ, ◌+◌, Bool, true, false, cond, ◌&&◌, List, [], ◌∷◌, take, Some, None, sum_by, Option, ◌==◌, nat_le, slice_index_or}
+use Rattle.std.specs.Prelude.{ℕ, ◌+◌, Bool, true, false, if◌then◌else◌, ◌&&◌, List, [], take, None, sum_by, Option, ◌==◌, nat_le, slice_index_or}
 use Rattle.account.specs.declared.row.Account.{Account}
+use Rattle.std.specs.List.{position_from}
 use Rattle.usage.specs.Usage.{unused}
-use Rattle.service.specs.declared.find.Wanted.{Wanted}
-use Rattle.service.specs.declared.find.Wanted.TheVariants.{OpenAs, EndedAs, PresentAs, FreePlace}
 use Rattle.service.specs.declared.rows.Pool.{Pool}
 use Rattle.service.specs.declared.rows.Session.{Session}
 use Rattle.service.specs.declared.rows.State.{State}
@@ -78,7 +77,14 @@ is_present Free = false
 is_present Open = true
 is_present Ended = true
 
--- a row is of the kind that is looked for: an open, an ended or a present session of a name, or a free place
+-- what is looked for: an open, an ended or a present session of a name, or a free place
+pub data Wanted : Type 0 where
+  OpenAs : (name : ℕ) → Wanted
+  EndedAs : (name : ℕ) → Wanted
+  PresentAs : (name : ℕ) → Wanted
+  FreePlace : Wanted
+
+-- a row is of that kind
 abbrev pub fits : Wanted → Session → Bool
 fits (OpenAs name) r = is_open r.state && r.name == name
 fits (EndedAs name) r = is_ended r.state && r.name == name
@@ -87,8 +93,7 @@ fits FreePlace r = is_free r.state
 
 -- the place, counted from i, of the first row that fits
 abbrev pub first_from : Wanted → List Session → ℕ → Option ℕ
-first_from wanted [] i = None
-first_from wanted (r ∷ rows) i = cond (fits wanted r) (Some i) (first_from wanted rows (i + 1))
+first_from wanted rows i = position_from (fits wanted) i rows
 
 abbrev pub first_fit : Wanted → List Session → Option ℕ
 first_fit wanted rows = first_from wanted rows 0
@@ -104,7 +109,7 @@ reserves_made t = sum_by pool_reserve (take t.made t.pools)
 
 -- what a row takes of a pool's reserve: its own, where it is a present session of the pool
 abbrev pub takes_of : ℕ → Session → ℕ
-takes_of number r = cond (is_present r.state && r.pool == number) r.account.reserve 0
+takes_of number r = if is_present r.state && r.pool == number then r.account.reserve else 0
 
 -- the reserves of a pool's present sessions
 abbrev pub reserves_in : ℕ → List Session → ℕ

@@ -1,78 +1,79 @@
-ghost use Rattle.std.specs.Prelude.{◌≡◌, ◌<◌, true, length, IfSome};
-ghost use Rattle.service.specs.Rows.{is_free, is_open, is_ended, is_present, fits, first_fit};
+ghost use Rattle.std.specs.Prelude.{◌≡◌, ◌<◌, IfSome};
+ghost use Rattle.service.specs.Rows.{is_present, OpenAs, EndedAs, PresentAs, FreePlace, fits, first_fit};
 
-use crate::rows::{Session, State};
-
-// What is looked for in the table of sessions: an open, an ended or a present session of a name, or a free place.
-#[derive(Clone, Copy)]
-pub enum Wanted {
-    OpenAs(u32),
-    EndedAs(u32),
-    PresentAs(u32),
-    FreePlace,
-}
+use crate::rows::{Session, State, Tables};
 
 impl State {
-    pub(crate) fn is_free(self) -> bool
-        ensures { result ≡ is_free self }
-    {
-        match self {
-            State::Free => true,
-            State::Open | State::Ended => false,
-        }
-    }
-
-    pub(crate) fn is_open(self) -> bool
-        ensures { result ≡ is_open self }
-    {
-        match self {
-            State::Open => true,
-            State::Free | State::Ended => false,
-        }
-    }
-
-    pub(crate) fn is_ended(self) -> bool
-        ensures { result ≡ is_ended self }
-    {
-        match self {
-            State::Ended => true,
-            State::Free | State::Open => false,
-        }
-    }
-
+    // Whether a session is there, open or ended.
     pub fn is_present(self) -> bool
         ensures { result ≡ is_present self }
     {
-        match self {
-            State::Free => false,
-            State::Open | State::Ended => true,
-        }
+        self != State::Free
     }
 }
 
-impl Wanted {
-    // Whether a row is of this kind.
-    fn fits(self, row: &Session) -> bool
-        ensures { result ≡ fits self row.now }
+// Small tests and look-ups, one for each thing that is looked for, and not one with a closure: each names the definition it meets.
+impl Session {
+    // Whether the place has an open session of a name.
+    fn is_open_as(&self, name: u32) -> bool
+        ensures { result ≡ fits (OpenAs name) self.now }
     {
-        match self {
-            Wanted::OpenAs(name) => row.state.is_open() && row.name == name,
-            Wanted::EndedAs(name) => row.state.is_ended() && row.name == name,
-            Wanted::PresentAs(name) => row.state.is_present() && row.name == name,
-            Wanted::FreePlace => row.state.is_free(),
-        }
+        self.state == State::Open && self.name == name
+    }
+
+    // Whether the place has an ended session of a name.
+    fn is_ended_as(&self, name: u32) -> bool
+        ensures { result ≡ fits (EndedAs name) self.now }
+    {
+        self.state == State::Ended && self.name == name
+    }
+
+    // Whether the place has a session of a name, open or ended.
+    fn is_present_as(&self, name: u32) -> bool
+        ensures { result ≡ fits (PresentAs name) self.now }
+    {
+        self.state.is_present() && self.name == name
+    }
+
+    // Whether the place is free.
+    fn is_free(&self) -> bool
+        ensures { result ≡ fits FreePlace self.now }
+    {
+        self.state == State::Free
     }
 }
 
-// The place of the first row of a kind.
-pub fn find(rows: &[Session], wanted: Wanted) -> Option<usize>
-    ensures is { result ≡ first_fit wanted rows.now }
-    ensures within { IfSome result (λ i. i < length rows.now) }
-{
-    for i in 0..rows.len() {
-        if wanted.fits(&rows[i]) {
-            return Some(i);
-        }
+// A place is a number with its bound beside, and no type of its own: the rules count places, and would have to unwrap it everywhere.
+impl Tables {
+    // The place of the open session of a name.
+    pub(crate) fn open_session(&self, name: u32) -> Option<usize>
+        ensures is { result ≡ first_fit (OpenAs name) self.now.sessions }
+        ensures within { IfSome result (λ i. i < 64) }
+    {
+        self.sessions.iter().position(|row| row.is_open_as(name))
     }
-    None
+
+    // The place of the ended session of a name.
+    pub(crate) fn ended_session(&self, name: u32) -> Option<usize>
+        ensures is { result ≡ first_fit (EndedAs name) self.now.sessions }
+        ensures within { IfSome result (λ i. i < 64) }
+    {
+        self.sessions.iter().position(|row| row.is_ended_as(name))
+    }
+
+    // The place of the session of a name, open or ended.
+    pub(crate) fn present_session(&self, name: u32) -> Option<usize>
+        ensures is { result ≡ first_fit (PresentAs name) self.now.sessions }
+        ensures within { IfSome result (λ i. i < 64) }
+    {
+        self.sessions.iter().position(|row| row.is_present_as(name))
+    }
+
+    // The first free place.
+    pub(crate) fn free_place(&self) -> Option<usize>
+        ensures is { result ≡ first_fit FreePlace self.now.sessions }
+        ensures within { IfSome result (λ i. i < 64) }
+    {
+        self.sessions.iter().position(|row| row.is_free())
+    }
 }

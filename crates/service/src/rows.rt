@@ -4,7 +4,7 @@ use usage::ServiceRecord;
 use values::io::Run;
 
 // Whether a place of the table of sessions is free, or its session open or ended.
-#[derive(Clone, Copy)]
+#[derive(Clone, Copy, Debug, PartialEq, Eq)]
 pub enum State {
     Free,
     Open,
@@ -13,6 +13,7 @@ pub enum State {
 
 // A place of the table of sessions: the session's name, its pool, its account, and how many of its I/Os were accepted,
 // are accepted and not sent, and are sent and not handed back. The others of those accepted are handed back.
+// Plain rows with their state beside, not Options: the rules ask for a table of session records that is changed in place.
 #[derive(Clone, Copy)]
 pub struct Session {
     pub state: State,
@@ -31,6 +32,7 @@ pub struct Pool {
 }
 
 // A run that was collected, and whether it is foreign: of no present session, or of more I/Os than its session has inside.
+// A mark beside the run, not two variants: every reader but one takes the run without asking.
 #[derive(Clone, Copy)]
 pub struct HandedBack {
     pub run: Run,
@@ -38,7 +40,8 @@ pub struct HandedBack {
 }
 
 // All that a service holds beside its sharing rule: settings, the latest accepted instant, the next order number,
-// the counts of pools made, of openings and of arrivals accepted, and the two tables.
+// the counts of pools made, of openings and of arrivals accepted, and the two tables. Of fixed size and Copy, since the service
+// takes no memory and the rules are functions from tables to tables; so the pools made are those before a count.
 #[derive(Clone, Copy)]
 pub struct Tables {
     pub throughput: u32,

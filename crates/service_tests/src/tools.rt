@@ -39,24 +39,15 @@ pub fn read(session: u32, address: u32) -> Result<Io, Fail> {
 
 // An answer, or the number of the refusal.
 pub fn number<T: Drop>(answer: Result<T, ServiceFault>) -> Result<T, u8> {
-    match answer {
-        Ok(x) => Ok(x),
-        Err(fault) => Err(fault.number()),
-    }
+    answer.map_err(ServiceFault::number)
 }
 
 // The number of the refusal, if it is one.
 pub fn refusal<T: Drop>(answer: Result<T, ServiceFault>) -> Option<u8> {
-    match answer {
-        Ok(_) => None,
-        Err(fault) => Some(fault.number()),
-    }
+    answer.err().map(ServiceFault::number)
 }
 
 // Whether a collected run is foreign.
 pub fn foreign(answer: Result<HandedBack, ServiceFault>) -> Result<bool, Fail> {
-    match answer {
-        Ok(back) => Ok(back.foreign),
-        Err(_) => Err(Fail::new("refused")),
-    }
+    Ok(answer?.foreign)
 }

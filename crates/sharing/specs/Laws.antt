@@ -1,5 +1,5 @@
 -- What holds of the levels.
-use Rattle.std.specs.Prelude.{◌≡◌, ℕ, ◌+◌, ◌-◌, ◌^◌, ◌<◌, ◌≤◌, Bool, cond, ◌∷◌, length, replicate, slice_index}
+use Rattle.std.specs.Prelude.{◌≡◌, ℕ, ◌+◌, ◌-◌, ◌^◌, ◌<◌, ◌≤◌, Bool, if◌then◌else◌, ◌∷◌, length, replicate, slice_index}
 use Rattle.usage.specs.declared.ServiceRecord.{ServiceRecord}
 use Rattle.usage.specs.Usage.{sent_one}
 use Rattle.sharing.specs.Levels.{weight_of, weight_at, water_level, even_level}
@@ -18,4 +18,4 @@ WaterRises = (due : Bool) (usage : ServiceRecord) → 0 < length usage.recent �
 
 -- a run sent leaves an even level if it was due, and raises it by one if it was not, where the count can still rise
 abbrev pub EvenRises : Type 0
-EvenRises = (due : Bool) (usage : ServiceRecord) → usage.not_due < 2 ^ 32 - 1 → even_level (sent_one due usage) ≡ cond due (even_level usage) (even_level usage + 1)
+EvenRises = (due : Bool) (usage : ServiceRecord) → usage.not_due < 2 ^ 32 - 1 → even_level (sent_one due usage) ≡ (if due then even_level usage else even_level usage + 1)

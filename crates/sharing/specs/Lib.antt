@@ -1,3 +1,4 @@
 pub mod Levels
 pub mod Rules
+pub mod Names
 pub mod Laws

@@ -11,6 +11,6 @@ impl SharingRule for Even {
     ghost level = { λ _ usage. even_level usage };
 
     fn level_of(&self, usage: &ServiceRecord) -> u64 {
-        usage.not_due as u64
+        u64::from(usage.not_due)
     }
 }

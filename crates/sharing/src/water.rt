@@ -14,7 +14,7 @@ const WEIGHTS: [u64; 20] = [
 pub fn weight(age: usize) -> u64
     ensures { result ≡ weight_at age }
 {
-    if age < 20 { WEIGHTS[age] } else { 0 }
+    WEIGHTS.get(age).copied().unwrap_or(0)
 }
 
 // A count of runs so many quarters old, times their weight.
@@ -23,7 +23,7 @@ fn weighted(count: u32, age: usize) -> u64
     ensures is { result ≡ count * weight_of age }
     ensures most { result ≤ 4294967295000000 }
 {
-    count as u64 * weight(age)
+    u64::from(count) * weight(age)
 }
 
 // The sum of the counts, each times its weight.
@@ -31,8 +31,8 @@ fn water_level(counts: &[u32; 20]) -> u64
     ensures { result ≡ water_level counts.now }
 {
     let mut level = 0;
-    for age in 0..20 {
-        level += weighted(counts[age], age);
+    for (age, count) in counts.iter().enumerate() {
+        level += weighted(*count, age);
     }
     level
 }

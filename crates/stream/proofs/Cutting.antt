@@ -6,30 +6,30 @@ use Rattle.stream.specs.declared.event.Event.{Event}
 use Rattle.stream.specs.declared.event.Spelled.{Spelled}
 use Rattle.stream.specs.declared.fault.StreamFault.{StreamFault}
 use Rattle.stream.specs.declared.fault.StreamWhy.{StreamWhy}
+use Rattle.stream.specs.declared.fault.StreamWhy.TheVariants.{CutShort}
 use Rattle.stream.specs.declared.field.Field.{Field}
 use Rattle.stream.specs.Events.{event_of, placed}
 use Rattle.stream.specs.Fields.{PlainField, field_size, field_from, spelled_at, spelled_by, one_read, decoded, event_from, plain_field, plainly, ValueInPlace}
 use Rattle.stream.specs.Numbers.{big_endian}
 
--- a field comes out only where none of the tests refuses it
-third_test : {X E : Type 0} (a b t : Bool) (x y : X) (e : E) → Ok (Some y) ≡ cond a (Ok None) (cond b (cond t (Ok (Some x)) (Err e)) (Err e)) → (t ≡ true) × (y ≡ x)
-third_test true b t x y e h = let z : ◌≡◌ {A = ℕ} 0 1 = cc in absurd (omega arith)
-third_test false false t x y e h = let z : ◌≡◌ {A = ℕ} 0 1 = cc in absurd (omega arith)
-third_test false true false x y e h = let z : ◌≡◌ {A = ℕ} 0 1 = cc in absurd (omega arith)
-third_test false true true x y e h = (refl, cc)
+-- what an answer tells of the tests behind it: no field is the end, a field passed the last test, and a fault is the one given
+abbrev Told : {X E : Type 0} → Bool → Bool → X → E → Result (Option X) E → Type 0
+Told a t x e (Ok None) = a ≡ true
+Told a t x e (Ok (Some y)) = (t ≡ true) × (y ≡ x)
+Told a t x e (Err d) = d ≡ e
 
--- no field comes out only at the end, and a fault tells the offset of its field
-first_test : {X E : Type 0} (a b t : Bool) (x : X) (e : E) → Ok None ≡ cond a (Ok None) (cond b (cond t (Ok (Some x)) (Err e)) (Err e)) → a ≡ true
-first_test true b t x e h = refl
-first_test false false t x e h = let z : ◌≡◌ {A = ℕ} 0 1 = cc in absurd (omega arith)
-first_test false true false x e h = let z : ◌≡◌ {A = ℕ} 0 1 = cc in absurd (omega arith)
-first_test false true true x e h = let z : ◌≡◌ {A = ℕ} 0 1 = cc in absurd (omega arith)
+told : {X E : Type 0} (a b t : Bool) (x : X) (e : E) → Told a t x e (cond a (Ok None) (cond b (cond t (Ok (Some x)) (Err e)) (Err e)))
+told true b t x e = refl
+told false false t x e = refl
+told false true false x e = refl
+told false true true x e = (refl, refl)
 
-some_fault : {X E : Type 0} (a b t : Bool) (x : X) (d e : E) → Err d ≡ cond a (Ok None) (cond b (cond t (Ok (Some x)) (Err e)) (Err e)) → d ≡ e
-some_fault true b t x d e h = let z : ◌≡◌ {A = ℕ} 0 1 = cc in absurd (omega arith)
-some_fault false false t x d e h = cc
-some_fault false true false x d e h = cc
-some_fault false true true x d e h = let z : ◌≡◌ {A = ℕ} 0 1 = cc in absurd (omega arith)
+-- the field at the front of the bytes that are left
+abbrev front : ℕ → List ℕ → PlainField
+front offset left = record { offset = offset; tag = get_or left 0 0; value = take (big_endian (take 2 (drop 1 left))) (drop 3 left) }
+
+told_of : (offset : ℕ) (left : List ℕ) (r : Result (Option PlainField) StreamFault) → r ≡ field_from offset left → Told (eqb (length left) 0) (leb (field_size left) (length left)) (front offset left) (record { why = CutShort; offset = offset }) r
+told_of offset left r h = subst (λ (x : Result (Option PlainField) StreamFault). Told (eqb (length left) 0) (leb (field_size left) (length left)) (front offset left) (record { why = CutShort; offset = offset }) x) (sym h) (told (eqb (length left) 0) (leb 3 (length left)) (leb (field_size left) (length left)) _ _)
 
 -- what a field that was cut out says
 pub record CutOut (offset : ℕ) (left : List ℕ) (f : PlainField) : Type 0 where
@@ -42,7 +42,7 @@ pub record CutOut (offset : ℕ) (left : List ℕ) (f : PlainField) : Type 0 whe
 pub cut_out : (offset : ℕ) (left : List ℕ) (f : PlainField) → Ok (Some f) ≡ field_from offset left → CutOut offset left f
 cut_out offset left f h =
     let n = big_endian (take 2 (drop 1 left)) in
-    let t = third_test (eqb (length left) 0) (leb 3 (length left)) (leb (field_size left) (length left)) _ f _ h in
+    let t = told_of offset left (Ok (Some f)) h in
     let w : field_size left ≤ length left = let q = t.0 in grind (arith, nat_tests) in
     let d = length-drop 3 left in
     let m : n ≤ length (drop 3 left) = omega arith in
@@ -86,9 +86,9 @@ tells_decoded offset left f h (Err why) = h.offset_is
 
 tells_field : (offset : ℕ) (left : List ℕ) (q : Result (Option PlainField) StreamFault) → q ≡ field_from offset left → Tells offset left (decoded q)
 unfolding spelled_by
-tells_field offset left (Ok None) h = let t = first_test (eqb (length left) 0) (leb 3 (length left)) (leb (field_size left) (length left)) _ _ h in grind (arith, nat_tests)
+tells_field offset left (Ok None) h = let t = told_of offset left (Ok None) h in grind (arith, nat_tests)
 tells_field offset left (Ok (Some f)) h = tells_decoded offset left f (cut_out offset left f h) (event_of f.tag f.value)
-tells_field offset left (Err fault) h = ap (λ (f : StreamFault). f.offset) (some_fault (eqb (length left) 0) (leb 3 (length left)) (leb (field_size left) (length left)) _ fault _ h)
+tells_field offset left (Err fault) h = ap (λ (f : StreamFault). f.offset) (told_of offset left (Err fault) h)
 
 pub tells_of : (offset : ℕ) (left : List ℕ) (r : Result (Option Spelled) StreamFault) → r ≡ event_from offset left → Tells offset left r
 tells_of offset left r h = subst (λ (x : Result (Option Spelled) StreamFault). Tells offset left x) (sym h) (tells_field offset left (field_from offset left) refl)

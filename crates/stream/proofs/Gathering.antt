@@ -1,6 +1,7 @@
 -- A stream read event by event.
 use Rattle.std.proofs.Common.{◌≡◌, ℕ, zero, suc, ◌+◌, ◌-◌, ◌≤◌, List, [], ◌∷◌, ◌++◌, length, take, drop, Some, None, Ok, Err, sym, refl, ap, ◌∙◌, subst, arith}
 use Rattle.std.specs.List.{flat_map}
+use Rattle.std.proofs.Math.Seq.{take-add}
 use Rattle.std.proofs.lemmas.List.{append-nil, append_assoc, drop-drop, length-drop, length-take-le, flat_map_more}
 use Rattle.stream.specs.declared.event.Spelled.{Spelled}
 use Rattle.stream.specs.declared.fault.StreamFault.{StreamFault}
@@ -28,24 +29,12 @@ by_fields offset (b ∷ bytes) =
 
 -- ---- so far
 
--- a front, and a front of what is left
-take_both : (m n : ℕ) (l : List ℕ) → take m l ++ take n (drop m l) ≡ take (m + n) l
-take_both zero n l = let e : n ≡ 0 + n = omega arith in ap (λ k. take k l) e
-take_both (suc m) zero [] = let e : suc m ≡ suc m + 0 = omega arith in ap (λ k. take k []) e
-take_both (suc m) (suc n) [] = let e : suc (m + suc n) ≡ suc m + suc n = omega arith in ap (λ k. take k []) e
-take_both (suc m) n (b ∷ l) = let e : suc (m + n) ≡ suc m + n = omega arith in ap (λ k. b ∷ k) (take_both m n l) ∙ ap (λ k. take k (b ∷ l)) e
-
 -- what was read up to an offset, followed by what is left there, is the whole, and its fields make up the input to there
 pub record Gathered (input : List ℕ) (offset : ℕ) (events : List Spelled) : Type 0 where
   pub events_are : events ++ (read_from offset 0 (drop offset input)).events ≡ (stream_of input).events
   pub fault_is : (read_from offset 0 (drop offset input)).fault ≡ (stream_of input).fault
   pub adjoining : Adjoining input 0 events offset
   pub parts : flat_map (part_of input) events ≡ take offset input
-
-pub gathered_none : (input : List ℕ) (offset : ℕ) (events : List Spelled) → offset ≡ 0 → events ≡ [] → Gathered input offset events
-gathered_none input offset events o e =
-    subst (λ (n : ℕ). Gathered input n events) (sym o)
-    (subst (λ (l : List Spelled). Gathered input 0 l) (sym e) (record { events_are = refl; fault_is = refl; adjoining = refl; parts = refl }))
 
 -- one event more behind the others
 adjoining_push : (input : List ℕ) (from : ℕ) (events : List Spelled) (to : ℕ) (spelled : Spelled) (end : ℕ) → Adjoining input from events to → event_from to (drop to input) ≡ Ok (Some spelled) → spelled.offset ≡ to → to + length (part_of input spelled) ≡ end → Adjoining input from (events ++ spelled ∷ []) end
@@ -71,7 +60,7 @@ module _ (input : List ℕ) (offset : ℕ) (events : List Spelled) (h : Gathered
         events_are = ap (λ (l : List Spelled). l ++ (read_from next 0 (drop next input)).events) pushed ∙ (append_assoc events (spelled ∷ []) (read_from next 0 (drop next input)).events ∙ (ap (λ (o : Outcome). events ++ spelled ∷ o.events) behind ∙ (ap (λ (o : Outcome). events ++ o.events) (sym front) ∙ h.events_are)));
         fault_is = ap (λ (o : Outcome). o.fault) behind ∙ (ap (λ (o : Outcome). o.fault) (sym front) ∙ h.fault_is);
         adjoining = subst (λ (l : List Spelled). Adjoining input 0 l next) (sym pushed) (adjoining_push input 0 events offset spelled next h.adjoining (sym e) t.0 (omega arith));
-        parts = ap (flat_map (part_of input)) pushed ∙ (sym (flat_map_more (part_of input) [] events spelled) ∙ (ap (λ l. l ++ part_of input spelled) h.parts ∙ (ap (λ l. take offset input ++ l) part ∙ (take_both offset (field_size left) input ∙ ap (λ k. take k input) (sym n)))));
+        parts = ap (flat_map (part_of input)) pushed ∙ (sym (flat_map_more (part_of input) [] events spelled) ∙ (ap (λ l. l ++ part_of input spelled) h.parts ∙ (ap (λ l. take offset input ++ l) part ∙ (sym (take-add offset (field_size left) input) ∙ ap (λ k. take k input) (sym n)))));
       }
 
   -- the end was met

@@ -1,58 +1,49 @@
 -- Reading what was written.
-use Rattle.std.proofs.Common.{◌≡◌, ℕ, zero, suc, ◌+◌, ◌*◌, ◌/◌, ◌%◌, ◌^◌, ◌<◌, ◌≤◌, Bool, true, false, cond, eqb, leb, List, [], ◌∷◌, ◌++◌, length, get_or, take, drop, Some, None, Ok, Option, Result, sym, refl, ap, ◌∙◌, subst, mod-eq_of_lt, mul_assoc, mul_comm, add-mul, pow-suc, arith, lit<}
-use native.Mathlib.Nat.{one-le-pow, mod-one}
-use lib.Arith.{mod-mul}
+use Rattle.std.proofs.Common.{◌≡◌, ℕ, ◌+◌, ◌^◌, ◌<◌, ◌≤◌, Bool, true, false, cond, eqb, leb, List, [], ◌∷◌, ◌++◌, length, take, drop, Some, None, Ok, Option, Result, refl, ap, ◌∙◌, subst, arith, lit<}
 use Rattle.std.specs.List.{flat_map, AllByRecursion as All}
-use Rattle.std.proofs.lemmas.List.{append-nil, append_assoc, take_at, take_all, drop_at, length-append, at_drop_more, at_drop_all}
+use Rattle.std.proofs.lemmas.List.{take_at, take_all, drop_at, length-append}
 use Rattle.std.proofs.lemmas.Bool.{ne_eqb, le-leb}
 use Rattle.sharing.specs.declared.shipped.Rule.TheVariants.{Water, Even}
 use Rattle.stream.specs.declared.event.Event.{Event}
 use Rattle.stream.specs.declared.event.Event.TheVariants.{Begin, Pool, Open, Arrival, Schedule, End, Close, Work, Collect}
 use Rattle.stream.specs.declared.event.Spelled.{Spelled}
+use Rattle.stream.specs.declared.event.SpelledRates.{SpelledRates}
 use Rattle.stream.specs.declared.fault.StreamFault.{StreamFault}
 use Rattle.stream.specs.declared.fault.StreamWhy.{StreamWhy}
 use Rattle.stream.specs.Events.{event_of, placed}
 use Rattle.stream.specs.Fields.{field_size, field_from, spelled_at, spelled_by, one_read, decoded, event_from}
-use Rattle.stream.specs.Numbers.{big_endian_after, big_endian, bytes_of}
+use Rattle.stream.specs.Numbers.{big_endian, bytes_of}
 use Rattle.stream.specs.Spelling.{tag_in, value_in, spelling, NumbersFit, events_at, ReadBack, RoundTrip}
 use Rattle.stream.specs.Streams.{in_front_of, read_from}
 use Rattle.stream.specs.Tags.{tag_number}
 use Rattle.stream.proofs.Gathering.{by_fields}
-
--- ---- numbers
-
--- the bytes of a number, read behind another
-read_after : (m many n : ℕ) → big_endian_after m (bytes_of many n) ≡ m * 256 ^ many + n % 256 ^ many
-read_after m zero n = let e = mod-one n in omega arith
-read_after m (suc many) n =
-    let p = 256 ^ many in
-    let pos : 0 < p = one-le-pow many 256 (lit< tt) in
-    let d = n / p % 256 in
-    let split : n % (256 * p) ≡ d * p + n % p = mod-mul n {m = 256} {c = p} (lit< tt) pos in
-    let power : 256 ^ suc many ≡ 256 * p = pow-suc 256 many ∙ mul_comm p 256 in
-    let sum : (m * 256 + d) * p ≡ m * 256 * p + d * p = add-mul (m * 256) d p in
-    let grouped : m * 256 * p ≡ m * (256 * p) = mul_assoc m 256 p in
-    let more = read_after (m * 256 + d) many n in
-    let e : m * (256 * p) + n % (256 * p) ≡ m * 256 ^ suc many + n % 256 ^ suc many = ap (λ k. m * k + n % k) (sym power) in
-    more ∙ (omega arith ∙ e)
-
-pub read_number : (many n : ℕ) → n < 256 ^ many → big_endian (bytes_of many n) ≡ n
-read_number many n h = let e = read_after 0 many n in let m : n % 256 ^ many ≡ n = mod-eq_of_lt h in omega arith
+use Rattle.stream.proofs.Numbers.{read_2, read_4, read_8}
 
 -- ---- one event
 
+-- rates are read as they were written, with a limit and without
+module _ (instant pool reserve burst : ℕ) where
+  abbrev with : Option ℕ → SpelledRates
+  with limit = record { reserve = reserve; burst = burst; limit = limit }
+
+  read_pool : (limit : Option ℕ) → NumbersFit (Pool instant (with limit)) → event_of 2 (value_in (Pool instant (with limit))) ≡ Ok (Pool instant (with limit))
+  read_pool None h = λ t. Ok (Pool (read_8 instant h.0 t) (record { reserve = read_4 reserve h.1.0 t; burst = burst; limit = None }))
+  read_pool (Some limit) h = λ t. Ok (Pool (read_8 instant h.0 t) (record { reserve = read_4 reserve h.1.0 t; burst = burst; limit = Some (read_4 limit h.1.2 t) }))
+
+  read_open : (limit : Option ℕ) → NumbersFit (Open instant pool (with limit)) → event_of 3 (value_in (Open instant pool (with limit))) ≡ Ok (Open instant pool (with limit))
+  read_open None h = λ t. Ok (Open (read_8 instant h.0 t) pool (record { reserve = read_4 reserve h.2.0 t; burst = burst; limit = None }))
+  read_open (Some limit) h = λ t. Ok (Open (read_8 instant h.0 t) pool (record { reserve = read_4 reserve h.2.0 t; burst = burst; limit = Some (read_4 limit h.2.2 t) }))
+
 -- its value is read as it was written
 pub read_event : (event : Event) → NumbersFit event → event_of (tag_number (tag_in event)) (value_in event) ≡ Ok event
-read_event (Begin throughput most Water) h = λ t. Ok (Begin (read_number 4 throughput h.0 t) most Water)
-read_event (Begin throughput most Even) h = λ t. Ok (Begin (read_number 4 throughput h.0 t) most Even)
-read_event (Pool instant reserve burst None) h = λ t. Ok (Pool (read_number 8 instant h.0 t) (read_number 4 reserve h.1 t) burst None)
-read_event (Pool instant reserve burst (Some limit)) h = λ t. Ok (Pool (read_number 8 instant h.0 t) (read_number 4 reserve h.1 t) burst (Some (read_number 4 limit h.3 t)))
-read_event (Open instant pool reserve burst None) h = λ t. Ok (Open (read_number 8 instant h.0 t) pool (read_number 4 reserve h.2 t) burst None)
-read_event (Open instant pool reserve burst (Some limit)) h = λ t. Ok (Open (read_number 8 instant h.0 t) pool (read_number 4 reserve h.2 t) burst (Some (read_number 4 limit h.4 t)))
-read_event (Arrival session direction address sectors) h = λ t. Ok (Arrival (read_number 4 session h.0 t) direction (read_number 4 address h.2 t) sectors)
-read_event (Schedule instant) h = λ t. Ok (Schedule (read_number 8 instant h t))
-read_event (End session) h = λ t. Ok (End (read_number 4 session h t))
-read_event (Close session) h = λ t. Ok (Close (read_number 4 session h t))
+read_event (Begin throughput most Water) h = λ t. Ok (Begin (read_4 throughput h.0 t) most Water)
+read_event (Begin throughput most Even) h = λ t. Ok (Begin (read_4 throughput h.0 t) most Even)
+read_event (Pool instant rates) h = read_pool instant 0 rates.reserve rates.burst rates.limit h
+read_event (Open instant pool rates) h = read_open instant pool rates.reserve rates.burst rates.limit h
+read_event (Arrival session direction address sectors) h = λ t. Ok (Arrival (read_4 session h.0 t) direction (read_4 address h.2 t) sectors)
+read_event (Schedule instant) h = λ t. Ok (Schedule (read_8 instant h t))
+read_event (End session) h = λ t. Ok (End (read_4 session h t))
+read_event (Close session) h = λ t. Ok (Close (read_4 session h t))
 read_event Work h = refl
 read_event Collect h = refl
 
@@ -60,10 +51,8 @@ read_event Collect h = refl
 short_value : (event : Event) → length (value_in event) < 256 ^ 2
 short_value (Begin throughput most Water) = lit< tt
 short_value (Begin throughput most Even) = lit< tt
-short_value (Pool instant reserve burst None) = lit< tt
-short_value (Pool instant reserve burst (Some limit)) = lit< tt
-short_value (Open instant pool reserve burst None) = lit< tt
-short_value (Open instant pool reserve burst (Some limit)) = lit< tt
+short_value (Pool instant rates) = elim rates.limit as (λ l. length (value_in (Pool instant (record rates { limit = l }))) < 256 ^ 2) [ None ↦ lit< tt | Some limit ↦ lit< tt ]
+short_value (Open instant pool rates) = elim rates.limit as (λ l. length (value_in (Open instant pool (record rates { limit = l }))) < 256 ^ 2) [ None ↦ lit< tt | Some limit ↦ lit< tt ]
 short_value (Arrival session direction address sectors) = lit< tt
 short_value (Schedule instant) = lit< tt
 short_value (End session) = lit< tt
@@ -81,7 +70,7 @@ module _ (offset number : ℕ) (value rest : List ℕ) (short : length value < 2
   written = number ∷ (bytes_of 2 (length value) ++ (value ++ rest))
 
   pub size_back : field_size written ≡ 3 + length value
-  size_back = ap (λ n. 3 + n) (read_number 2 (length value) short)
+  size_back = ap (λ n. 3 + n) (read_2 (length value) short)
 
   pub field_back : field_from offset written ≡ Ok (Some (record { offset = offset; tag = number; value = value }))
   field_back =
@@ -90,7 +79,7 @@ module _ (offset number : ℕ) (value rest : List ℕ) (short : length value < 2
       let some : length written ≡ 0 → ⊥ = λ e. omega arith in
       let front : 3 ≤ length written = omega arith in
       let whole : field_size written ≤ length written = omega arith in
-      let taken : take (big_endian (take 2 (drop 1 written))) (drop 3 written) ≡ value = ap (λ n. take n (value ++ rest)) (read_number 2 (length value) short) ∙ take_at value rest (length value) refl in
+      let taken : take (big_endian (take 2 (drop 1 written))) (drop 3 written) ≡ value = ap (λ n. take n (value ++ rest)) (read_2 (length value) short) ∙ take_at value rest (length value) refl in
       all_pass (eqb (length written) 0) (leb 3 (length written)) (leb (field_size written) (length written)) _ _ _ _ (ne_eqb _ _ some) (le-leb _ _ front) (le-leb _ _ whole)
       ∙ (λ t. Ok (Some (record { offset = offset; tag = number; value = taken t })))
 
@@ -119,17 +108,6 @@ read_all offset (event ∷ events) h = one_back offset event (flat_map spelling 
 pub round_trip : RoundTrip
 round_trip events h = read_all 0 events h
 
--- ---- event after event
-
--- one event more was written
-pub written_more : (events : List Event) (i : ℕ) (d : Event) (whole out out' : List ℕ) → i < length events → out ++ flat_map spelling (drop i events) ≡ whole → out' ≡ out ++ spelling (get_or events i d) → out' ++ flat_map spelling (drop (i + 1) events) ≡ whole
-written_more events i d whole out out' lt h more =
-    let rest = flat_map spelling (drop (i + 1) events) in
-    ap (λ l. l ++ rest) more ∙ (append_assoc out (spelling (get_or events i d)) rest ∙ (ap (λ l. out ++ l) (sym (at_drop_more (flat_map spelling) events i d lt)) ∙ h))
-
--- all were written
-pub written_all : (events : List Event) (i : ℕ) (whole out : List ℕ) → length events ≤ i → out ++ flat_map spelling (drop i events) ≡ whole → out ≡ whole
-written_all events i whole out le h = sym (append-nil out) ∙ (ap (λ l. out ++ l) (sym (at_drop_all (flat_map spelling) events i le)) ∙ h)
-
+-- the same, where the events so far are all of them
 pub read_back : (events : List Event) (i : ℕ) → length events ≤ i → All NumbersFit (take i events) → ReadBack events (flat_map spelling events)
 read_back events i le h = round_trip events (subst (λ (l : List Event). All NumbersFit l) (take_all i events le) h)

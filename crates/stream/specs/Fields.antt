@@ -1,5 +1,5 @@
 -- A stream, field by field.
-use Rattle.std.specs.Prelude.{◌≡◌, ℕ, ◌+◌, ◌≤◌, cond, List, length, take, drop, Some, None, Ok, Err, Option, Result, ◌==◌, nat_le, slice_index}
+use Rattle.std.specs.Prelude.{◌≡◌, ℕ, ◌+◌, ◌≤◌, if◌then◌else◌, List, length, take, drop, Some, None, Ok, Err, Option, Result, ◌==◌, nat_le, slice_index}
 use Rattle.stream.specs.declared.event.Event.{Event}
 use Rattle.stream.specs.declared.event.Spelled.{Spelled}
 use Rattle.stream.specs.declared.fault.StreamFault.{StreamFault}
@@ -21,10 +21,10 @@ field_size left = 3 + big_endian (take 2 (drop 1 left))
 -- the field at the front of the bytes that are left from an offset on: none at the end, and a fault where it is cut short
 abbrev pub field_from : ℕ → List ℕ → Result (Option PlainField) StreamFault
 field_from offset left =
-    cond (length left == 0) (Ok None)
-    (cond (nat_le 3 (length left))
-    (cond (nat_le (field_size left) (length left)) (Ok (Some (record { offset = offset; tag = slice_index left 0; value = take (big_endian (take 2 (drop 1 left))) (drop 3 left) }))) (Err (record { why = CutShort; offset = offset })))
-    (Err (record { why = CutShort; offset = offset })))
+    if length left == 0 then Ok None
+    else (if nat_le 3 (length left)
+    then (if nat_le (field_size left) (length left) then Ok (Some (record { offset = offset; tag = slice_index left 0; value = take (big_endian (take 2 (drop 1 left))) (drop 3 left) })) else Err (record { why = CutShort; offset = offset }))
+    else Err (record { why = CutShort; offset = offset }))
 
 -- an event with the offset of its field
 abbrev pub spelled_at : ℕ → Result Event StreamFault → Result Spelled StreamFault

@@ -1,7 +1,6 @@
 pub mod Faults
 pub mod Numbers
 pub mod Tags
-pub mod Names
 pub mod Events
 pub mod Fields
 pub mod Streams

@@ -1,6 +1,7 @@
 -- The tags of fields.
-use Rattle.std.specs.Prelude.{ℕ, Bool, cond, ◌||◌, List, [], ◌∷◌, Some, None, Option, ◌==◌, nat_le}
+use Rattle.std.specs.Prelude.{◌≡◌, ◌≢◌, ℕ, Bool, if◌then◌else◌, ◌||◌, List, [], ◌∷◌, Some, None, Option, Result, ok_or, MatchResult, ◌==◌, nat_le}
 use Rattle.stream.specs.declared.tag.Tag.{Tag}
+use Rattle.stream.specs.declared.tag.UnknownTag.{UnknownTag}
 use Rattle.stream.specs.declared.tag.Tag.TheVariants.{Begin, Pool, Open, Arrival, Schedule, End, Close, Work, Collect}
 
 -- the number that stands for each tag
@@ -33,8 +34,12 @@ tags = Begin ∷ Pool ∷ Open ∷ Arrival ∷ Schedule ∷ End ∷ Close ∷ Wo
 -- the first tag of a list that a number stands for
 abbrev pub tag_among : ℕ → List Tag → Option Tag
 tag_among n [] = None
-tag_among n (t ∷ ts) = cond (n == tag_number t) (Some t) (tag_among n ts)
+tag_among n (t ∷ ts) = if n == tag_number t then Some t else tag_among n ts
 
 -- the tag that a number stands for
 abbrev pub tag_of : ℕ → Option Tag
 tag_of n = tag_among n tags
+
+-- the tag that is read of a number is the one that it stands for, and the only one; where none is, no tag has the number
+abbrev pub StandsFor : ℕ → Result Tag UnknownTag → Type 0
+StandsFor number result = (result ≡ ok_or (tag_of number) (record {})) × MatchResult result (λ t. tag_number t ≡ number) (λ _. (t : Tag) → tag_number t ≢ number)

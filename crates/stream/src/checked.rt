@@ -41,55 +41,53 @@ pub enum Checked {
     Collect,
 }
 
-// The checked values of an event.
-fn values_of(event: Event) -> Result<Checked, ValueFault>
-    ensures says { MatchResult result (λ x. checked_says x ≡ event) (λ _. in_range event ≡ false) }
-    ensures range { is_ok result ≡ in_range event }
-{
-    match event {
-        Event::Begin {
-            throughput,
-            cap,
-            rule,
-        } => Ok(Checked::Begin {
-            settings: Settings::new(throughput, cap)?,
-            rule,
-        }),
-        Event::Pool {
-            instant,
-            reserve,
-            burst,
-            limit,
-        } => Ok(Checked::Pool {
-            instant: Instant::new(instant)?,
-            rates: Rates::new(reserve, limit, burst)?,
-        }),
-        Event::Open {
-            instant,
-            pool,
-            reserve,
-            burst,
-            limit,
-        } => Ok(Checked::Open {
-            instant: Instant::new(instant)?,
-            pool,
-            rates: Rates::new(reserve, limit, burst)?,
-        }),
-        Event::Arrival {
-            session,
-            direction,
-            address,
-            length,
-        } => Ok(Checked::Arrival {
-            io: Io::new(session, direction, address, length)?,
-        }),
-        Event::Schedule { instant } => Ok(Checked::Schedule {
-            instant: Instant::new(instant)?,
-        }),
-        Event::End { session } => Ok(Checked::End { session }),
-        Event::Close { session } => Ok(Checked::Close { session }),
-        Event::Work => Ok(Checked::Work),
-        Event::Collect => Ok(Checked::Collect),
+// The checked values of an event; refused exactly where a number is out of its range.
+impl TryFrom<Event> for Checked {
+    type Error = ValueFault;
+
+    ghost use Rattle.stream.specs.Ranges.{ValuesOf};
+
+    ghost try_from_gives = { ValuesOf };
+
+    fn try_from(event: Event) -> Result<Checked, ValueFault> {
+        match event {
+            Event::Begin {
+                throughput,
+                cap,
+                rule,
+            } => Ok(Checked::Begin {
+                settings: Settings::new(throughput, cap)?,
+                rule,
+            }),
+            Event::Pool { instant, rates } => Ok(Checked::Pool {
+                instant: Instant::new(instant)?,
+                rates: rates.try_into()?,
+            }),
+            Event::Open {
+                instant,
+                pool,
+                rates,
+            } => Ok(Checked::Open {
+                instant: Instant::new(instant)?,
+                pool,
+                rates: rates.try_into()?,
+            }),
+            Event::Arrival {
+                session,
+                direction,
+                address,
+                length,
+            } => Ok(Checked::Arrival {
+                io: Io::new(session, direction, address, length)?,
+            }),
+            Event::Schedule { instant } => Ok(Checked::Schedule {
+                instant: Instant::new(instant)?,
+            }),
+            Event::End { session } => Ok(Checked::End { session }),
+            Event::Close { session } => Ok(Checked::Close { session }),
+            Event::Work => Ok(Checked::Work),
+            Event::Collect => Ok(Checked::Collect),
+        }
     }
 }
 
@@ -98,8 +96,5 @@ pub fn check(event: Event, offset: usize) -> Result<Checked, ValueFault>
     ensures says { MatchResult result (λ x. checked_says x ≡ event) (λ f. (f.offset ≡ offset) × (in_range event ≡ false)) }
     ensures range { is_ok result ≡ in_range event }
 {
-    match values_of(event) {
-        Ok(checked) => Ok(checked),
-        Err(_) => Err(ValueFault { offset }),
-    }
+    Checked::try_from(event).map_err(|_| ValueFault { offset })
 }

@@ -1,23 +1,40 @@
-ghost use Rattle.std.specs.Prelude.{◌≡◌, ◌≤◌, true, length, Ok, Err, ◌≢◌};
-ghost use Rattle.stream.specs.Events.{limit_in, said_by, event_of, placed};
+ghost use Rattle.std.specs.Prelude.{◌≡◌, ◌+◌, ◌≤◌, true, length, take, drop, Ok, ◌≢◌, ◌⊎◌};
+ghost use Rattle.stream.specs.Events.{limit_in, rates_in, said_by, event_of, placed};
 ghost use Rattle.stream.specs.Tags.{length_lawful};
 
-use super::event::Event;
+use super::event::{Event, SpelledRates};
 use super::fault::{StreamFault, StreamWhy};
 use super::field::Field;
-use super::name::rule_named;
-use super::number::{number_32, number_64};
 use super::tag::Tag;
+use sharing::shipped::Rule;
+
+// So many bytes of a value, from a place on.
+fn bytes_at<const N: usize>(v: &[u8], place: usize) -> [u8; N]
+    requires { place + N ≤ length v.now }
+    ensures { result ≡ take N (drop place v.now) }
+{
+    let mut bytes = [0; N];
+    bytes.copy_from_slice(&v[place..place + N]);
+    bytes
+}
 
 // The limit that four bytes spell; none where there are no bytes.
 fn limit_in(bytes: &[u8]) -> Option<u32>
     requires { (length bytes.now ≢ 0) → length bytes.now ≡ 4 }
     ensures { result ≡ limit_in bytes.now }
 {
-    if bytes.len() == 0 {
-        None
-    } else {
-        Some(number_32(bytes))
+    bytes.first_chunk().map(|limit| u32::from_be_bytes(*limit))
+}
+
+// Reserve, burst, and the limit or nothing.
+fn rates_in(bytes: &[u8]) -> SpelledRates
+    requires { (length bytes.now ≡ 5) ⊎ (length bytes.now ≡ 9) }
+    ensures { result ≡ rates_in bytes.now }
+{
+    SpelledRates {
+        reserve: u32::from_be_bytes(bytes_at(bytes, 0)),
+        burst: bytes[4],
+        limit: limit_in(&bytes[5..]),
     }
 }
 
@@ -26,43 +43,33 @@ fn begin(v: &[u8]) -> Result<Event, StreamWhy>
     requires { 5 ≤ length v.now }
     ensures { result ≡ said_by Tag.Begin v.now }
 {
-    let (numbers, name) = v.split_at(5);
-    match rule_named(name) {
-        Some(rule) => Ok(Event::Begin {
-            throughput: number_32(&numbers[0..4]),
-            cap: numbers[4],
-            rule,
-        }),
-        None => Err(StreamWhy::RuleName),
-    }
+    Ok(Event::Begin {
+        throughput: u32::from_be_bytes(bytes_at(v, 0)),
+        cap: v[4],
+        rule: Rule::try_from(&v[5..])?,
+    })
 }
 
-// A pool: instant, reserve, burst, and the limit or nothing.
+// A pool: instant and rates.
 fn pool(v: &[u8]) -> Event
     requires { length_lawful Tag.Pool (length v.now) ≡ true }
     ensures { Ok result ≡ said_by Tag.Pool v.now }
 {
-    let (_, limit) = v.split_at(13);
     Event::Pool {
-        instant: number_64(&v[0..8]),
-        reserve: number_32(&v[8..12]),
-        burst: v[12],
-        limit: limit_in(limit),
+        instant: u64::from_be_bytes(bytes_at(v, 0)),
+        rates: rates_in(&v[8..]),
     }
 }
 
-// An opening: instant, pool, reserve, burst, and the limit or nothing.
+// An opening: instant, pool and rates.
 fn open(v: &[u8]) -> Event
     requires { length_lawful Tag.Open (length v.now) ≡ true }
     ensures { Ok result ≡ said_by Tag.Open v.now }
 {
-    let (_, limit) = v.split_at(14);
     Event::Open {
-        instant: number_64(&v[0..8]),
+        instant: u64::from_be_bytes(bytes_at(v, 0)),
         pool: v[8],
-        reserve: number_32(&v[9..13]),
-        burst: v[13],
-        limit: limit_in(limit),
+        rates: rates_in(&v[9..]),
     }
 }
 
@@ -72,9 +79,9 @@ fn arrival(v: &[u8]) -> Event
     ensures { Ok result ≡ said_by Tag.Arrival v.now }
 {
     Event::Arrival {
-        session: number_32(&v[0..4]),
+        session: u32::from_be_bytes(bytes_at(v, 0)),
         direction: v[4],
-        address: number_32(&v[5..9]),
+        address: u32::from_be_bytes(bytes_at(v, 5)),
         length: v[9],
     }
 }
@@ -90,13 +97,13 @@ fn said(tag: Tag, v: &[u8]) -> Result<Event, StreamWhy>
         Tag::Open => Ok(open(v)),
         Tag::Arrival => Ok(arrival(v)),
         Tag::Schedule => Ok(Event::Schedule {
-            instant: number_64(v),
+            instant: u64::from_be_bytes(bytes_at(v, 0)),
         }),
         Tag::End => Ok(Event::End {
-            session: number_32(v),
+            session: u32::from_be_bytes(bytes_at(v, 0)),
         }),
         Tag::Close => Ok(Event::Close {
-            session: number_32(v),
+            session: u32::from_be_bytes(bytes_at(v, 0)),
         }),
         Tag::Work => Ok(Event::Work),
         Tag::Collect => Ok(Event::Collect),
@@ -107,15 +114,11 @@ fn said(tag: Tag, v: &[u8]) -> Result<Event, StreamWhy>
 fn event_of(number: u8, value: &[u8]) -> Result<Event, StreamWhy>
     ensures { result ≡ event_of number value.now }
 {
-    match Tag::from_number(number) {
-        Some(tag) => {
-            if tag.allows(value.len()) {
-                said(tag, value)
-            } else {
-                Err(StreamWhy::WrongLength)
-            }
-        }
-        None => Err(StreamWhy::UnknownTag),
+    let tag = Tag::try_from(number)?;
+    if tag.allows(value.len()) {
+        said(tag, value)
+    } else {
+        Err(StreamWhy::WrongLength)
     }
 }
 
@@ -123,11 +126,8 @@ fn event_of(number: u8, value: &[u8]) -> Result<Event, StreamWhy>
 pub fn decode(field: Field) -> Result<Event, StreamFault>
     ensures { result ≡ placed field.entry.offset (event_of field.entry.tag field.entry.value.now) }
 {
-    match event_of(field.tag, field.value) {
-        Ok(event) => Ok(event),
-        Err(why) => Err(StreamFault {
-            why,
-            offset: field.offset,
-        }),
-    }
+    event_of(field.tag, field.value).map_err(|why| StreamFault {
+        why,
+        offset: field.offset,
+    })
 }

@@ -3,9 +3,32 @@ ghost use Rattle.stream.specs.Spelling.{tag_in};
 
 use super::tag::Tag;
 use sharing::shipped::Rule;
+use values::fault::ValueFault;
+use values::rates::Rates;
+
+// The reserve, the burst and the limit of a pool or a session, exactly as a field spells them, in range or not.
+#[derive(Clone, Copy, Debug, PartialEq, Eq)]
+pub struct SpelledRates {
+    pub reserve: u32,
+    pub burst: u8,
+    pub limit: Option<u32>,
+}
+
+// The rates that spelled numbers stand for; refused exactly where they are not allowed.
+impl TryFrom<SpelledRates> for Rates {
+    type Error = ValueFault;
+
+    ghost use Rattle.stream.specs.Ranges.{RatesOf};
+
+    ghost try_from_gives = { RatesOf };
+
+    fn try_from(rates: SpelledRates) -> Result<Rates, ValueFault> {
+        Rates::new(rates.reserve, rates.limit, rates.burst)
+    }
+}
 
 // An event, its numbers exactly as a field spells them, in range or not.
-#[derive(Clone, Copy)]
+#[derive(Clone, Copy, Debug, PartialEq, Eq)]
 pub enum Event {
     // A service begins.
     Begin {
@@ -16,19 +39,15 @@ pub enum Event {
     // A pool is made.
     Pool {
         instant: u64,
-        reserve: u32,
-        burst: u8,
-        limit: Option<u32>,
+        rates: SpelledRates,
     },
     // A session is opened.
     Open {
         instant: u64,
         pool: u8,
-        reserve: u32,
-        burst: u8,
-        limit: Option<u32>,
+        rates: SpelledRates,
     },
-    // An I/O of a session arrives.
+    // An I/O of a session arrives. (Its direction is a number here, since a field may spell one that is no direction's.)
     Arrival {
         session: u32,
         direction: u8,
@@ -54,7 +73,7 @@ pub enum Event {
 }
 
 // An event, and the offset of the field that spells it.
-#[derive(Clone, Copy)]
+#[derive(Clone, Copy, Debug, PartialEq, Eq)]
 pub struct Spelled {
     pub offset: usize,
     pub event: Event,

@@ -1,5 +1,5 @@
 // The way in: the events that a stream of bytes spells, exactly, or the fault that ends it.
-#![tactic(auto)]
+#![tactic(auto, using(crate::proofs::Numbers::numbers))]
 
 pub mod checked;
 pub mod decode;
@@ -7,8 +7,6 @@ pub mod event;
 pub mod fault;
 pub mod field;
 pub mod laws;
-pub mod name;
-mod number;
 pub mod reader;
 pub mod tag;
 pub mod whole;

@@ -7,7 +7,7 @@ use super::reader::Reader;
 use std::alloc::{AllocError, Global};
 
 // The events of a stream, and the fault that ends it, if one does.
-#[derive(Drop)]
+#[derive(Debug, Drop)]
 pub struct Stream {
     pub events: Vec<Spelled>,
     pub fault: Option<StreamFault>,
@@ -31,12 +31,12 @@ fn gather(input: &[u8], events: &mut Vec<Spelled>) -> Result<Option<StreamFault>
 }
 
 // Reads a whole stream: exactly the events that the bytes spell, up to the end or to the first fault.
-pub fn read_stream(heap: Global, input: &[u8]) -> Result<Stream, AllocError>
+pub fn read_stream(alloc: Global, input: &[u8]) -> Result<Stream, AllocError>
     ensures events { IfOk result (λ s. s.events.items ≡ (stream_of input.now).events) }
     ensures fault { IfOk result (λ s. s.fault ≡ (stream_of input.now).fault) }
     ensures whole { IfOk result (λ s. MakesUp input.now s.events.items s.fault) }
 {
-    let mut events = Vec::new(heap);
+    let mut events = Vec::new(alloc);
     let fault = gather(input, &mut events)?;
     Ok(Stream { events, fault })
 }

@@ -2,17 +2,13 @@ use std::alloc::{AllocError, Global};
 use std::test::Fail;
 use stream::checked::check as check_values;
 use stream::decode::decode;
-use stream::event::Event;
-use stream::fault::StreamFault;
 use stream::field::Field;
 use stream::whole::read_stream;
 
 // The number and the offset of the fault that ends a stream.
-fn fault(heap: Global, input: &[u8]) -> Result<Option<(u8, usize)>, AllocError> {
-    match read_stream(heap, input)?.fault {
-        Some(fault) => Ok(Some((fault.number(), fault.offset))),
-        None => Ok(None),
-    }
+fn fault(alloc: Global, input: &[u8]) -> Result<Option<(u8, usize)>, AllocError> {
+    let stream = read_stream(alloc, input)?;
+    Ok(stream.fault.map(|fault| (fault.number(), fault.offset)))
 }
 
 #[test]
@@ -29,40 +25,36 @@ fn faults_of_fields(rt: HostRuntime) -> Result<(), Fail> {
 
 #[test]
 fn rule_names(rt: HostRuntime) -> Result<(), Fail> {
-    let heap = rt.alloc();
-    assert_eq!(rt; fault(heap, b"\x01\x00\x04\0\0\0\x01")?, Some((3, 0)));
-    assert_eq!(rt; fault(heap, b"\x01\x00\x09\0\0\0\0\x01Even")?, Some((4, 0)));
-    assert_eq!(rt; fault(heap, b"\x01\x00\x08\0\0\0\0\x01eve")?, Some((4, 0)));
+    let alloc = rt.alloc();
+    assert_eq!(rt; fault(alloc, b"\x01\x00\x04\0\0\0\x01")?, Some((3, 0)));
     assert_eq!(rt;
-        fault(heap, b"\x01\x00\x0a\0\0\0\0\x01evenx")?,
+        fault(alloc, b"\x01\x00\x09\0\0\0\0\x01Even")?,
+        Some((4, 0))
+    );
+    assert_eq!(rt; fault(alloc, b"\x01\x00\x08\0\0\0\0\x01eve")?, Some((4, 0)));
+    assert_eq!(rt;
+        fault(alloc, b"\x01\x00\x0a\0\0\0\0\x01evenx")?,
         Some((4, 0))
     );
     assert_eq!(rt;
-        fault(heap, b"\x01\x00\x0a\0\0\0\0\x01water\x08")?,
+        fault(alloc, b"\x01\x00\x0a\0\0\0\0\x01water\x08")?,
         Some((1, 13))
     );
     Ok(())
 }
 
-// The fault's number by tag and length, where all bytes are zero; 0 for none.
-fn expected(tag: u8, length: usize) -> u8 {
+// The fault's number by tag and length, where all bytes are zero; none where there is no fault.
+fn expected(tag: u8, length: usize) -> Option<u8> {
     match (tag, length) {
-        (1, 5..=20) => 4,
-        (2, 13 | 17) => 0,
-        (3, 14 | 18) => 0,
-        (4, 10) => 0,
-        (5, 8) => 0,
-        (6 | 7, 4) => 0,
-        (8 | 9, 0) => 0,
-        (1..=9, _) => 3,
-        _ => 2,
-    }
-}
-
-fn number(read: Result<Event, StreamFault>) -> u8 {
-    match read {
-        Ok(_) => 0,
-        Err(fault) => fault.number(),
+        (1, 5..=20) => Some(4),
+        (2, 13 | 17) => None,
+        (3, 14 | 18) => None,
+        (4, 10) => None,
+        (5, 8) => None,
+        (6 | 7, 4) => None,
+        (8 | 9, 0) => None,
+        (1..=9, _) => Some(3),
+        _ => Some(2),
     }
 }
 
@@ -76,7 +68,8 @@ fn every_tag_with_every_length(rt: HostRuntime) {
                 tag,
                 value: &zeros[0..n],
             };
-            assert_eq!(rt; number(decode(field)), expected(tag, n));
+            let fault = decode(field).err();
+            assert_eq!(rt; fault.map(|fault| fault.number()), expected(tag, n));
         }
     }
 }
@@ -88,12 +81,10 @@ fn out_of_range(rt: HostRuntime) -> Result<(), Fail> {
     assert!(rt; stream.fault.is_none());
     assert!(rt; stream.events.len() == 3);
     let begin = stream.events[1];
-    match check_values(begin.event, begin.offset) {
-        Ok(_) => Err(Fail::new("throughput 0")),
-        Err(fault) => {
-            assert_eq!(rt; fault.number(), 5);
-            assert_eq!(rt; fault.offset, 3);
-            Ok(())
-        }
-    }
+    let Err(fault) = check_values(begin.event, begin.offset) else {
+        return Err(Fail::new("throughput 0"));
+    };
+    assert_eq!(rt; fault.number(), 5);
+    assert_eq!(rt; fault.offset, 3);
+    Ok(())
 }

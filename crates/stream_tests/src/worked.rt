@@ -1,7 +1,7 @@
 use sharing::shipped::Rule;
 use std::test::Fail;
 use stream::checked::{Checked, check as check_values};
-use stream::event::Event;
+use stream::event::{Event, SpelledRates};
 use stream::reader::Reader;
 use stream::whole::read_stream;
 use stream::write::write_stream;
@@ -29,6 +29,11 @@ fn arrival(address: u32) -> Event {
 // The bytes are those of its eleven events.
 #[test]
 fn written(rt: HostRuntime) -> Result<(), Fail> {
+    let rates = SpelledRates {
+        reserve: 10,
+        burst: 1,
+        limit: Some(20),
+    };
     let bytes = write_stream(
         rt.alloc(),
         &[
@@ -37,18 +42,11 @@ fn written(rt: HostRuntime) -> Result<(), Fail> {
                 cap: 2,
                 rule: Rule::Even,
             },
-            Event::Pool {
-                instant: 0,
-                reserve: 10,
-                burst: 1,
-                limit: Some(20),
-            },
+            Event::Pool { instant: 0, rates },
             Event::Open {
                 instant: 0,
                 pool: 0,
-                reserve: 10,
-                burst: 1,
-                limit: Some(20),
+                rates,
             },
             arrival(100),
             arrival(108),
@@ -60,7 +58,7 @@ fn written(rt: HostRuntime) -> Result<(), Fail> {
             Event::Collect,
         ],
     )?;
-    assert_eq!(rt; bytes.as_slice(), &EXAMPLE[0..123]);
+    assert_eq!(rt; bytes.as_slice(), EXAMPLE.as_slice());
     Ok(())
 }
 
@@ -70,12 +68,8 @@ fn read(rt: HostRuntime) -> Result<(), Fail> {
     let stream = read_stream(rt.alloc(), &EXAMPLE)?;
     assert!(rt; stream.fault.is_none());
     assert_eq!(rt; stream.events.len(), 11);
-    let mut i = 0;
-    for spelled in stream.events.as_slice() {
-        if i < 11 {
-            assert_eq!(rt; spelled.offset, OFFSETS[i]);
-            i += 1;
-        }
+    for (spelled, offset) in stream.events.iter().zip(&OFFSETS) {
+        assert_eq!(rt; spelled.offset, *offset);
     }
     Ok(())
 }
@@ -87,26 +81,21 @@ fn one_by_one(rt: HostRuntime) -> Result<(), Fail> {
     let Ok(Some(first)) = reader.next_event() else {
         return Err(Fail::new("no event"));
     };
-    match check_values(first.event, first.offset)? {
-        Checked::Begin { settings, rule: _ } => {
-            assert_eq!(rt; settings.throughput, 100);
-            Ok(())
-        },
-        _ => Err(Fail::new("no begin")),
-    }
+    let Checked::Begin { settings, .. } = check_values(first.event, first.offset)? else {
+        return Err(Fail::new("no begin"));
+    };
+    assert_eq!(rt; settings.throughput, 100);
+    Ok(())
 }
 
 // Cut at any byte, it is read to the last whole field, and the next one is cut short.
 #[test]
 fn cut_anywhere(rt: HostRuntime) -> Result<(), Fail> {
-    let mut whole = 0;
     for n in 0..123 {
-        if whole < 11 && OFFSETS[whole + 1] <= n {
-            whole += 1;
-        }
+        let whole = OFFSETS[1..].iter().filter(|end| **end <= n).count();
         let stream = read_stream(rt.alloc(), &EXAMPLE[0..n])?;
         assert_eq!(rt; stream.events.len(), whole);
-        let start = if whole < 12 { OFFSETS[whole] } else { 0 };
+        let start = OFFSETS.get(whole).copied().unwrap_or(0);
         match stream.fault {
             None => assert_eq!(rt; start, n),
             Some(fault) => {

@@ -2,15 +2,50 @@
 
 use device::elevator::Elevator;
 use device::store::LineStore;
-use seek::serve::serve;
+use seek::serve::{Steady, serve};
 use seek::text::{BadLine, read_requests};
 use seek::travel::travel;
+use std::alloc::{AllocError, Global};
 use std::io::Read;
-use std::{env, io};
+use std::{env, fmt, io};
 use values::io::Run;
 
 const USAGE: &str =
     "sweep: reads lines \"ADDRESS LENGTH\" (sectors) from standard input, serves them through an elevator\nand through a line store, and tells the order of service of each and how far the arm travelled.";
+
+// What a device did with the requests: its order of service and its arm's way.
+#[derive(Drop)]
+struct Course {
+    device: &'static str,
+    served: Vec<Run>,
+    way: u128,
+}
+
+impl fmt::Display for Course {
+    fn fmt<W: fmt::Write>(&self, f: &mut fmt::Formatter<W>) -> fmt::Result {
+        writeln!(f, "{}", self.device)?;
+        for run in &self.served {
+            writeln!(f, "  {} {}", run.extent.address, run.extent.length)?;
+        }
+        write!(f, "  travelled {} sectors", self.way)
+    }
+}
+
+// Serves the requests through a device.
+fn course_of<D: Steady>(
+    alloc: Global,
+    name: &'static str,
+    device: &mut D,
+    runs: &[Run],
+) -> Result<Course, AllocError> {
+    let served = serve(alloc, device, runs)?;
+    let way = travel(served.as_slice());
+    Ok(Course {
+        device: name,
+        served,
+        way,
+    })
+}
 
 // All of standard input.
 fn read_input(rt: &HostRuntime) -> io::Result<Vec<u8>> {
@@ -19,36 +54,19 @@ fn read_input(rt: &HostRuntime) -> io::Result<Vec<u8>> {
     Ok(all)
 }
 
-// A line for each bad line, numbered from 1.
+// A line for each bad line.
 fn print_bad(rt: &HostRuntime, bad: &[BadLine]) -> io::Result<()> {
-    for b in bad {
-        let number = b.line as u128 + 1;
-        let text = b.fault.text();
-        println!(rt; "line {number}: {text}")?;
+    for line in bad {
+        println!(rt; "{line}")?;
     }
     Ok(())
 }
 
-// A device's order of service and its arm's way.
-fn print_served(rt: &HostRuntime, name: &str, served: &[Run], way: u128) -> io::Result<()> {
-    println!(rt; "{name}")?;
-    for run in served {
-        let address = run.extent.address;
-        let length = run.extent.length;
-        println!(rt; "  {address} {length}")?;
-    }
-    println!(rt; "  travelled {way} sectors")
-}
-
 // How much shorter the first way is than the second.
 fn print_saving(rt: &HostRuntime, elevator: u128, store: u128) -> io::Result<()> {
-    if elevator <= store {
-        let saved = store - elevator;
-        println!(rt; "the elevator saves {saved} sectors")
-    } else {
-        let lost = elevator - store;
-        println!(rt; "the elevator costs {lost} sectors")
-    }
+    let does = if elevator <= store { "saves" } else { "costs" };
+    let sectors = elevator.abs_diff(store);
+    println!(rt; "the elevator {does} {sectors} sectors")
 }
 
 fn run(rt: &HostRuntime) -> anyhow::Result<()> {
@@ -59,13 +77,12 @@ fn run(rt: &HostRuntime) -> anyhow::Result<()> {
     let input = read_input(rt)?;
     let requests = read_requests(rt.alloc(), input.as_slice())?;
     print_bad(rt, requests.bad.as_slice())?;
-    let swept = serve(rt.alloc(), &mut Elevator::new(), requests.runs.as_slice())?;
-    let stored = serve(rt.alloc(), &mut LineStore::new(), requests.runs.as_slice())?;
-    let swept_way = travel(swept.as_slice());
-    let stored_way = travel(stored.as_slice());
-    print_served(rt, "elevator", swept.as_slice(), swept_way)?;
-    print_served(rt, "line store", stored.as_slice(), stored_way)?;
-    print_saving(rt, swept_way, stored_way)?;
+    let runs = requests.runs.as_slice();
+    let swept = course_of(rt.alloc(), "elevator", &mut Elevator::new(), runs)?;
+    let stored = course_of(rt.alloc(), "line store", &mut LineStore::new(), runs)?;
+    println!(rt; "{swept}")?;
+    println!(rt; "{stored}")?;
+    print_saving(rt, swept.way, stored.way)?;
     Ok(())
 }
 

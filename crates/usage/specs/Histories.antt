@@ -1,5 +1,5 @@
 -- What a service record says of all the runs that were sent.
-use Rattle.std.specs.Prelude.{◌≡◌, ℕ, ◌+◌, ◌^◌, ◌<◌, ◌≤◌, Bool, cond, List, [], ◌∷◌, length, ◌==◌, slice_index}
+use Rattle.std.specs.Prelude.{◌≡◌, ℕ, ◌+◌, ◌^◌, ◌<◌, ◌≤◌, Bool, if◌then◌else◌, List, [], ◌∷◌, length, ◌==◌, slice_index}
 use Rattle.usage.specs.declared.ServiceRecord.{ServiceRecord}
 use Rattle.usage.specs.Usage.{unused, moved_to, sent_one}
 
@@ -26,12 +26,12 @@ record_of start (send ∷ sends) = sent_one send.due (moved_to send.quarter (rec
 -- how many runs were sent so many quarters before this one
 abbrev pub sent_ago : ℕ → ℕ → List Send → ℕ
 sent_ago quarters present [] = 0
-sent_ago quarters present (send ∷ sends) = cond (send.quarter + quarters == present) 1 0 + sent_ago quarters present sends
+sent_ago quarters present (send ∷ sends) = (if send.quarter + quarters == present then 1 else 0) + sent_ago quarters present sends
 
 -- how many runs were sent when not due
 abbrev pub not_due_count : List Send → ℕ
 not_due_count [] = 0
-not_due_count (send ∷ sends) = cond send.due 0 1 + not_due_count sends
+not_due_count (send ∷ sends) = (if send.due then 0 else 1) + not_due_count sends
 
 -- read in the present quarter, each of the twenty counts is the number of runs sent so many quarters ago
 abbrev pub WindowCounts : Type 0

@@ -1,5 +1,5 @@
 -- Service records, counted in quarter seconds.
-use Rattle.std.specs.Prelude.{ℕ, ◌+◌, ◌-◌, ◌/◌, ◌^◌, min, Bool, cond, List, ◌++◌, take, replicate, nat_lt, slice_index, slice_set}
+use Rattle.std.specs.Prelude.{ℕ, ◌+◌, ◌-◌, ◌/◌, ◌^◌, min, Bool, if◌then◌else◌, List, ◌++◌, take, replicate, nat_lt, slice_index, slice_set}
 use Rattle.usage.specs.declared.ServiceRecord.{ServiceRecord}
 
 -- the quarter second, counted from instant 0, that so many microseconds lie in
@@ -16,14 +16,14 @@ shifted n counts = take 20 (replicate n 0 ++ counts)
 
 -- the count at a place, n quarters later: it stood n places before, and in front of it are zeros
 abbrev pub count_at : ℕ → List ℕ → ℕ → ℕ
-count_at n counts place = cond (nat_lt place n) 0 (slice_index counts (place - n))
+count_at n counts place = if nat_lt place n then 0 else slice_index counts (place - n)
 
 -- the record as it reads in a later quarter; its own quarter, or an earlier one, changes nothing
 abbrev pub moved_to : ℕ → ServiceRecord → ServiceRecord
 moved_to quarter r =
-    cond (nat_lt r.quarter quarter)
-    (record { quarter = quarter; recent = shifted (quarter - r.quarter) r.recent; not_due = r.not_due })
-    r
+    if nat_lt r.quarter quarter
+    then record r { quarter = quarter; recent = shifted (quarter - r.quarter) r.recent }
+    else r
 
 -- one more, up to the most that a count holds
 abbrev pub one_more : ℕ → ℕ
@@ -35,5 +35,5 @@ sent_one due r =
     record {
       quarter = r.quarter;
       recent = slice_set r.recent 0 (one_more (slice_index r.recent 0));
-      not_due = cond due r.not_due (one_more r.not_due);
+      not_due = if due then r.not_due else one_more r.not_due;
     }

@@ -2,6 +2,8 @@
 ghost use Rattle.std.specs.Prelude.{◌≡◌, ℕ, ◌+◌, ◌<◌};
 ghost use Rattle.usage.specs.Usage.{count_at, shifted as shifted_by};
 
+use std::array::from_fn;
+
 // The count at a place, so many quarters later: it stood as many places before, and at the front zeros come in.
 fn count_at(counts: &[u32; 20], quarters: u64, place: usize) -> u32
     requires { place < 20 }
@@ -19,9 +21,5 @@ pub fn shifted(counts: [u32; 20], quarters: u64) -> [u32; 20]
     ensures is { result ≡ shifted_by quarters counts }
     ensures again { (m : ℕ) → shifted_by m result ≡ shifted_by (m + quarters) counts }
 {
-    let mut later = [0; 20];
-    for place in 0..20 {
-        later[place] = count_at(&counts, quarters, place);
-    }
-    later
+    from_fn(|place| count_at(&counts, quarters, place))
 }

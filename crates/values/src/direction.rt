@@ -1,35 +1,35 @@
-ghost use Rattle.std.specs.Prelude.{◌≡◌, MatchResult, ◌≢◌};
-ghost use Rattle.values.specs.Direction.{direction_number};
-ghost use Rattle.values.specs.Refusals.{outside_stream};
+ghost use Rattle.std.specs.Prelude.{◌≡◌};
+ghost use Rattle.values.specs.Direction.{direction_number, Decodes};
 
 use super::fault::ValueFault;
 
-// Whether an I/O reads or writes.
+// Whether an I/O reads or writes, with the number that stands for it.
 #[derive(Clone, Copy, Debug, PartialEq, Eq)]
 pub enum Direction {
-    Read,
-    Write,
+    Read = 0,
+    Write = 1,
 }
 
-impl Direction {
-    // The number that stands for the direction.
-    pub fn number(self) -> u8
-        ensures { result ≡ direction_number self }
-    {
-        match self {
-            Direction::Read => 0,
-            Direction::Write => 1,
-        }
-    }
+// The number that stands for a direction.
+impl From<Direction> for u8 {
+    ghost from_gives = { λ direction number. number ≡ direction_number direction };
 
-    // The direction that a number stands for; refused exactly where it stands for none.
-    pub fn from_number(number: u8) -> Result<Direction, ValueFault>
-        ensures { MatchResult result (λ d. direction_number d ≡ number) (λ f. (f ≡ outside_stream) × ((d : Direction) → direction_number d ≢ number)) }
-    {
+    fn from(direction: Direction) -> u8 {
+        direction as u8
+    }
+}
+
+// The direction that a number stands for; refused exactly where it stands for none.
+impl TryFrom<u8> for Direction {
+    type Error = ValueFault;
+
+    ghost try_from_gives = { Decodes };
+
+    fn try_from(number: u8) -> Result<Direction, ValueFault> {
         match number {
             0 => Ok(Direction::Read),
             1 => Ok(Direction::Write),
-            _ => Err(ValueFault { offset: 0 }),
+            _ => Err(ValueFault::OUTSIDE_STREAM),
         }
     }
 }

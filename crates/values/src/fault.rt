@@ -9,7 +9,10 @@ pub struct ValueFault {
 }
 
 impl ValueFault {
-    // The number by which the refusal is told.
+    // The refusal where no field of a stream is at fault.
+    pub const OUTSIDE_STREAM: ValueFault = ValueFault { offset: 0 };
+
+    // The number by which the refusal is told. (A method and no conversion: a refusal is more than its number.)
     pub fn number(self) -> u8
         ensures { result ≡ value_fault_number self }
     {

@@ -29,10 +29,11 @@ pub struct Run {
 
 impl Io {
     // The I/O that four numbers stand for; refused exactly where the direction is none or the extent not lawful.
+    // (The direction is a number here: whoever has one that stands for none is told so.)
     pub fn new(session: u32, direction: u8, address: u32, length: u8) -> Result<Io, ValueFault>
         ensures { MatchResult result (λ io. Says session direction address length io) (λ f. (f ≡ outside_stream) × (IsDirection direction × Lawful address length → ⊥)) }
     {
-        let direction = Direction::from_number(direction)?;
+        let direction = Direction::try_from(direction)?;
         let extent = Extent::new(address, length)?;
         Ok(Io {
             session,

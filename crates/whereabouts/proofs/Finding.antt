@@ -3,11 +3,9 @@ use Rattle.std.proofs.Common.{◌≡◌, ℕ, zero, suc, ◌+◌, ◌<◌, ◌�
 use Rattle.service.proofs.Finding.{found_within, found_fits}
 use Rattle.service.specs.Calls.{Place, place_for, open_place, arrival_at, arrival_place, close_at, close_place}
 use Rattle.service.specs.Faults.{refused}
-use Rattle.service.specs.Rows.{session, pool, blank_session, fits, first_from, first_fit, is_free, is_open, is_ended, is_present, reserves_in}
+use Rattle.service.specs.Rows.{session, pool, blank_session, fits, first_from, first_fit, is_free, is_open, is_ended, is_present, reserves_in, Wanted, OpenAs, EndedAs, PresentAs, FreePlace}
 use Rattle.service.specs.declared.fault.ServiceFault.{ServiceFault}
 use Rattle.service.specs.declared.fault.ServiceWhy.TheVariants.{InstantBefore, NoSuchPool, NoReserve, CountedOut, WaitingLineFull, NotHandedBack}
-use Rattle.service.specs.declared.find.Wanted.{Wanted}
-use Rattle.service.specs.declared.find.Wanted.TheVariants.{OpenAs, EndedAs, PresentAs, FreePlace}
 use Rattle.service.specs.declared.rows.Session.{Session}
 use Rattle.service.specs.declared.rows.State.{State}
 use Rattle.service.specs.declared.rows.State.TheVariants.{Free, Open, Ended}

@@ -12,8 +12,7 @@ use Rattle.scheduling.proofs.Choosing.{head_present, usable_is}
 use Rattle.scheduling.specs.Sending.{head_at, used_of, owner_of, sent_row, sent_line, Sends}
 use Rattle.service.specs.Calls.{open_place, arrival_place, close_place, opened_row, accepted_row, ended_row, handed_row, hand_back, hand_back_at, with_sessions}
 use Rattle.service.specs.Moments.{Moment, full_at, arrived_moment}
-use Rattle.service.specs.Rows.{session, blank_session, free_place, first_fit, is_present}
-use Rattle.service.specs.declared.find.Wanted.TheVariants.{PresentAs, OpenAs}
+use Rattle.service.specs.Rows.{session, blank_session, free_place, first_fit, is_present, PresentAs, OpenAs}
 use Rattle.service.specs.declared.rows.HandedBack.{HandedBack}
 use Rattle.service.specs.declared.rows.Session.{Session}
 use Rattle.service.specs.declared.rows.Tables.{Tables}

@@ -1,8 +1,7 @@
 -- Sums over the table of sessions by a session's name, and collections of runs compared by sums.
 use Rattle.std.proofs.Common.{◌≡◌, ℕ, zero, suc, ◌+◌, ◌<◌, ◌≤◌, Bool, true, false, cond, ◌&&◌, eqb, List, [], ◌∷◌, length, get_or, set, sum_by, sym, refl, ◌∙◌, subst, ⊎_elim, arith}
 use Rattle.device.specs.Meaning.{Same}
-use Rattle.service.specs.Rows.{blank_session, fits, is_present}
-use Rattle.service.specs.declared.find.Wanted.TheVariants.{PresentAs}
+use Rattle.service.specs.Rows.{blank_session, fits, is_present, PresentAs}
 use Rattle.service.specs.declared.rows.Session.{Session}
 use Rattle.std.specs.List.{AllByRecursion as All}
 use Rattle.std.proofs.lemmas.List.Sums.{sum_by-cons, sum_by-set}

@@ -1,12 +1,11 @@
 -- Where every accepted I/O is, over whole runs.
-use Rattle.std.specs.Prelude.{◌≡◌, ℕ, ◌+◌, ◌-◌, ◌<◌, ◌≤◌, true, false, cond, List, length, drop, sum_by, nat_lt}
+use Rattle.std.specs.Prelude.{◌≡◌, ℕ, ◌+◌, ◌-◌, ◌<◌, ◌≤◌, true, false, if◌then◌else◌, List, length, drop, sum_by, nat_lt}
 use Rattle.heads.specs.Heads.{of_session}
 use Rattle.history.specs.Histories.{Law, EveryHistoryKeeps}
 use Rattle.history.specs.Logs.{arrivals_in, backs_in}
 use Rattle.history.specs.Steps.{Event}
 use Rattle.service.specs.Moments.{Moment}
-use Rattle.service.specs.Rows.{session, fits}
-use Rattle.service.specs.declared.find.Wanted.TheVariants.{PresentAs}
+use Rattle.service.specs.Rows.{session, fits, PresentAs}
 use Rattle.service.specs.declared.rows.Session.{Session}
 use Rattle.std.specs.List.{AllByRecursion}
 use Rattle.values.specs.declared.io.Run.{Run}
@@ -29,7 +28,7 @@ MadeFor log name runs = AllByRecursion (λ run. run.session ≡ name → MadeOf 
 -- The I/Os of one session, present, closed or never opened.
 pub record Whereabouts (name : ℕ) (log : List Event) (m : Moment) : Type 0 where
   -- every accepted I/O is waiting, inside the device or handed back, in exactly one of the three, once; and no other is in any
-  pub once : (number : ℕ) → times_waiting log m name number + (times_inside m name number + times_back log name number) ≡ cond (nat_lt number (length (accepted log name))) 1 0
+  pub once : (number : ℕ) → times_waiting log m name number + (times_inside m name number + times_back log name number) ≡ (if nat_lt number (length (accepted log name)) then 1 else 0)
   -- the arrivals were answered with the numbers that the I/Os are found under
   pub answered : AnsweredRightly name (arrivals_in log)
   -- those waiting are the last accepted, as they were accepted and in that order

@@ -1,5 +1,5 @@
 -- The three places of an accepted I/O: waiting, inside the device, handed back.
-use Rattle.std.specs.Prelude.{◌≡◌, ℕ, ◌+◌, ◌-◌, ◌≤◌, cond, ◌&&◌, List, [], ◌∷◌, ◌++◌, map, length, take, drop, sum_by, count_by, ◌==◌, nat_eq, nat_le, nat_lt}
+use Rattle.std.specs.Prelude.{◌≡◌, ℕ, ◌+◌, ◌-◌, ◌≤◌, if◌then◌else◌, ◌&&◌, List, [], ◌∷◌, ◌++◌, map, length, take, drop, sum_by, count_by, ◌==◌, nat_eq, nat_le, nat_lt}
 use Rattle.device.specs.Meaning.{Meaning}
 use Rattle.heads.specs.Heads.{of_session}
 use Rattle.history.specs.Logs.{Arrival, arrivals_in, backs_in}
@@ -16,7 +16,7 @@ use Rattle.values.specs.declared.io.Run.{Run}
 -- the I/Os that a session's accepted arrivals gave, in their order: the one at place k has arrival number k
 abbrev pub accepted_of : List Arrival → ℕ → List Io
 accepted_of [] name = []
-accepted_of (a ∷ arrivals) name = cond (a.io.session == name) (accepted_of arrivals name ++ a.io ∷ []) (accepted_of arrivals name)
+accepted_of (a ∷ arrivals) name = if a.io.session == name then accepted_of arrivals name ++ a.io ∷ [] else accepted_of arrivals name
 
 abbrev pub accepted : List Event → ℕ → List Io
 accepted log name = accepted_of (arrivals_in log) name
@@ -40,7 +40,7 @@ times_waiting log m name number = count_by (λ k. nat_eq k number) (waiting_numb
 
 -- a run has its session's I/Os from its first arrival number on, as many as its count
 abbrev pub has_number : (name number : ℕ) → Run → ℕ
-has_number name number run = cond (run.session == name && (nat_le run.first number && nat_lt number (run.first + run.count))) 1 0
+has_number name number run = if run.session == name && (nat_le run.first number && nat_lt number (run.first + run.count)) then 1 else 0
 
 -- the runs inside a device, at work or done, and the runs that were handed back
 abbrev pub held_in : Meaning → List Run
@@ -76,4 +76,4 @@ MadeOf accepts run = MakeUp (take run.count (drop run.first accepts)) run.count 
 
 -- how many I/Os of a session a run has
 abbrev pub count_for : ℕ → Run → ℕ
-count_for name run = cond (run.session == name) run.count 0
+count_for name run = if run.session == name then run.count else 0

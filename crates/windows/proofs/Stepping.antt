@@ -12,10 +12,9 @@ use Rattle.service.proofs.Finding.{found_within, found_fits}
 use Rattle.service.specs.Calls.{Place, pool_place, pool_made, session_opened, open_place, place_for, arrival_place, arrival_at, accepted_row, ended, ended_row, close_place, close_at, closed, arrived, hand_back_at, hand_back, handed_row, with_sessions}
 use Rattle.service.specs.Faults.{refused}
 use Rattle.service.specs.Moments.{Moment, full_at}
-use Rattle.service.specs.Rows.{session, pool, free_place, is_present, is_open, first_fit, reserves_made, reserves_in}
+use Rattle.service.specs.Rows.{session, pool, free_place, is_present, is_open, first_fit, reserves_made, reserves_in, OpenAs, EndedAs, PresentAs, FreePlace}
 use Rattle.service.specs.declared.fault.ServiceFault.{ServiceFault}
 use Rattle.service.specs.declared.fault.ServiceWhy.TheVariants.{InstantBefore, NoSuchPool, NoPlace, NoReserve, CountedOut, WaitingLineFull, NotHandedBack}
-use Rattle.service.specs.declared.find.Wanted.TheVariants.{OpenAs, EndedAs, PresentAs, FreePlace}
 use Rattle.service.specs.declared.rows.HandedBack.{HandedBack}
 use Rattle.service.specs.declared.rows.State.{State}
 use Rattle.service.specs.declared.rows.State.TheVariants.{Free, Open, Ended}

@@ -38,14 +38,12 @@ impl BucketPair {
         BucketPair {
             rates,
             reserve: 0,
-            limit: match rates.limit {
-                Some(_) => Some(capacity_of(rates.burst)),
-                None => None,
-            },
+            limit: rates.limit.map(|_| capacity_of(rates.burst)),
         }
     }
 
     // The pair that a table's plain numbers stand for; none exactly where they are no pair.
+    // (No conversion of one value: the numbers of a row come from three of its fields.)
     pub fn from_units(rates: Rates, reserve: u64, limit: Option<u64>) -> Option<BucketPair>
         ensures { MatchOption result (is_pair rates.burst rates.limit reserve limit ≡ false) (λ p. (is_pair rates.burst rates.limit reserve limit ≡ true) × (p.rates ≡ rates) × (p.reserve ≡ reserve) × (p.limit ≡ limit)) }
     {
@@ -80,10 +78,7 @@ impl BucketPair {
         BucketPair {
             rates: self.rates,
             reserve: charged_units(self.reserve),
-            limit: match self.limit {
-                Some(units) => Some(charged_units(units)),
-                None => None,
-            },
+            limit: self.limit.map(charged_units),
         }
     }
 
@@ -91,9 +86,6 @@ impl BucketPair {
     pub fn may_send(&self) -> bool
         ensures { result ≡ may_send self.now.limit }
     {
-        match self.limit {
-            Some(units) => units >= RUN_COST,
-            None => true,
-        }
+        self.limit.is_none_or(|units| units >= RUN_COST)
     }
 }

@@ -1,39 +1,46 @@
-ghost use Rattle.std.specs.Prelude.{◌≡◌, ℕ, ◌<◌, List, ◌∷◌, None, slice_index_or};
-ghost use Rattle.heads.specs.Heads.{finally, head_says, HeadsOf};
-ghost use Rattle.heads.specs.Places.{final_at, still};
+ghost use Rattle.std.specs.Prelude.{◌≡◌, ℕ, ◌<◌, List, ◌∷◌};
+ghost use Rattle.heads.specs.Heads.{HeadsOf, head_says};
+ghost use Rattle.heads.specs.Places.{final_at, finally_from, found};
 ghost use Rattle.std.specs.Option.{option_map};
 ghost use Rattle.values.specs.declared.io.Io.{Io};
 
 use super::Head;
-use super::scan::joined;
 use values::io::Io;
 
-// A head run that is being found: what there is so far, and whether it can still grow.
+// A head run that is being found: none yet, one that the next I/O may join, or one that is over.
 #[derive(Clone, Copy)]
-struct Growing {
-    head: Option<Head>,
-    grows: bool,
+enum Growing {
+    Empty,
+    Open(Head),
+    Over(Head),
 }
 
-// What an I/O makes of the run of a place: with it the place ends as it would have with the I/O in front of what is left.
-fn met(growing: Growing, name: Option<u32>, io: Io) -> Growing
-    ensures { (ios : List Io) → finally (option_map head_says result.head) result.grows name ios ≡ finally (option_map head_says growing.head) growing.grows name (io ∷ ios) }
-{
-    let Some(name) = name else {
-        return growing;
-    };
-    if !growing.grows || io.session != name {
-        return growing;
+impl Growing {
+    // What an I/O makes of the run of a place: with it the place ends as it would have with the I/O in front of what is left.
+    fn met(self, name: Option<u32>, io: Io) -> Growing
+        ensures { (ios : List Io) → finally_from result name ios ≡ finally_from self name (io ∷ ios) }
+    {
+        if name != Some(io.session) {
+            return self;
+        }
+        match self {
+            Growing::Empty => Growing::Open(Head::alone(io)),
+            Growing::Open(head) => match head.longer(io) {
+                Some(longer) => Growing::Open(longer),
+                None => Growing::Over(head),
+            },
+            Growing::Over(_) => self,
+        }
     }
-    match joined(growing.head, io) {
-        Some(longer) => Growing {
-            head: Some(longer),
-            grows: true,
-        },
-        None => Growing {
-            head: growing.head,
-            grows: false,
-        },
+
+    // The run that was found, if there is one.
+    fn found(self) -> Option<Head>
+        ensures { option_map head_says result ≡ found self }
+    {
+        match self {
+            Growing::Empty => None,
+            Growing::Open(head) | Growing::Over(head) => Some(head),
+        }
     }
 }
 
@@ -41,32 +48,20 @@ fn met(growing: Growing, name: Option<u32>, io: Io) -> Growing
 fn meet(growing: &mut [Growing; 64], names: &[Option<u32>; 64], io: Io)
     ensures { (k : ℕ) (ios : List Io) → k < 64 → final_at growing.new names.now k ios ≡ final_at growing.old names.now k (io ∷ ios) }
 {
-    for place in 0..64 {
-        growing[place] = met(growing[place], names[place], io);
+    // By places: after a zip with `iter_mut` a proof knows nothing of what was written.
+    for (place, name) in names.iter().enumerate() {
+        growing[place] = growing[place].met(*name, io);
     }
-}
-
-// The runs that were found.
-fn found(growing: &[Growing; 64]) -> [Option<Head>; 64]
-    ensures { (k : ℕ) → k < 64 → slice_index_or result k None ≡ (slice_index_or growing.now k still).head }
-{
-    let mut heads = [None; 64];
-    for place in 0..64 {
-        heads[place] = growing[place].head;
-    }
-    heads
 }
 
 // The head runs of the sessions of all places, by one pass over the waiting line.
+// The names come beside the table of sessions, which this crate does not know.
 pub fn heads_at_once(waiting: &[Io], names: &[Option<u32>; 64]) -> [Option<Head>; 64]
     ensures { HeadsOf names.now waiting.now result }
 {
-    let mut growing = [Growing {
-        head: None,
-        grows: true,
-    }; 64];
+    let mut growing = [Growing::Empty; 64];
     for io in waiting {
         meet(&mut growing, names, *io);
     }
-    found(&growing)
+    growing.map(Growing::found)
 }

@@ -1,18 +1,49 @@
 ghost use Rattle.std.specs.Prelude.{◌≡◌, Some};
-ghost use Rattle.heads.specs.Heads.{joins, with_one, head_of, head_says};
+ghost use Rattle.heads.specs.Heads.{alone, joins, with_one, head_of, head_says};
 ghost use Rattle.std.specs.Option.{option_map};
 
 use super::Head;
 use values::extent::Extent;
 use values::io::Io;
 
-// Whether an I/O goes on where a run ends, in its direction, with at most 64 sectors together.
-fn adjoins(head: Head, io: Io) -> bool
-    ensures { result ≡ joins (head_says head) io }
-{
-    head.direction.number() == io.direction.number()
-        && io.extent.address == head.extent.end()
-        && head.extent.length + io.extent.length <= 64
+impl Head {
+    // An I/O as a run of its own.
+    pub(super) fn alone(io: Io) -> Head
+        ensures { head_says result ≡ alone io }
+    {
+        Head {
+            count: 1,
+            direction: io.direction,
+            extent: io.extent,
+        }
+    }
+
+    // Whether an I/O goes on where the run ends, in its direction, with at most 64 sectors together.
+    fn adjoins(&self, io: Io) -> bool
+        ensures { result ≡ joins (head_says self.now) io }
+    {
+        self.direction == io.direction
+            && io.extent.address == self.extent.end()
+            && self.extent.length + io.extent.length <= 64
+    }
+
+    // The run with one I/O more; none where the I/O does not join it.
+    pub(super) fn longer(self, io: Io) -> Option<Head>
+        ensures { option_map head_says result ≡ with_one (Some (head_says self)) io }
+    {
+        if self.adjoins(io) {
+            Some(Head {
+                count: self.count + 1,
+                direction: self.direction,
+                extent: Extent {
+                    address: self.extent.address,
+                    length: self.extent.length + io.extent.length,
+                },
+            })
+        } else {
+            None
+        }
+    }
 }
 
 // A run so far with one I/O more of its session; none where the I/O does not join it.
@@ -20,25 +51,8 @@ pub fn joined(head: Option<Head>, io: Io) -> Option<Head>
     ensures { option_map head_says result ≡ with_one (option_map head_says head) io }
 {
     match head {
-        None => Some(Head {
-            count: 1,
-            direction: io.direction,
-            extent: io.extent,
-        }),
-        Some(head) => {
-            if adjoins(head, io) {
-                Some(Head {
-                    count: head.count + 1,
-                    direction: head.direction,
-                    extent: Extent {
-                        address: head.extent.address,
-                        length: head.extent.length + io.extent.length,
-                    },
-                })
-            } else {
-                None
-            }
-        }
+        None => Some(Head::alone(io)),
+        Some(head) => head.longer(io),
     }
 }
 
@@ -46,13 +60,13 @@ pub fn joined(head: Option<Head>, io: Io) -> Option<Head>
 pub fn head_of(waiting: &[Io], name: u32) -> Option<Head>
     ensures { option_map head_says result ≡ head_of name waiting.now }
 {
-    let mut head: Option<Head> = None;
+    let mut head = None;
     for io in waiting {
         if io.session == name {
-            match joined(head, *io) {
-                Some(longer) => head = Some(longer),
-                None => return head,
-            }
+            let Some(longer) = joined(head, *io) else {
+                return head;
+            };
+            head = Some(longer);
         }
     }
     head

@@ -12,6 +12,7 @@ use values::instant::Instant;
 use values::rates::Rates;
 use values::settings::Settings;
 
+// Each call says that the rule stays (`rule`): that compares two moments, which no ghost field can say.
 impl<R: SharingRule> Service<R> {
     // A service with no pools and no sessions.
     pub fn new(settings: Settings, rule: R) -> Service<R>

@@ -13,7 +13,7 @@ use line::Line;
 use sharing::rule::SharingRule;
 use values::io::Io;
 
-// The calls that are lent a line.
+// The calls that are lent a line. Each says that the line's table is still the same one (`same`), which no ghost field can say.
 impl<R: SharingRule> Service<R> {
     // Accepts an I/O of an open session into the waiting line. Answers its arrival number: a session's accepted I/Os are counted from 0.
     pub fn arrival(&mut self, waiting: &mut Line<'_, Io>, io: Io) -> Result<u32, ServiceFault>

@@ -3,7 +3,6 @@ ghost use Rattle.service.specs.Calls.{accepted_row, arrival_place, arrival_call,
 ghost use Rattle.service.specs.Rows.{session, counts_fit};
 
 use crate::fault::{ServiceFault, ServiceWhy};
-use crate::find::{Wanted, find};
 use crate::rows::{Session, Tables};
 use line::Line;
 use values::io::Io;
@@ -34,14 +33,14 @@ impl Tables {
         ensures within { IfOk result (λ i. i < 64) }
         ensures few { IfOk result (λ i. (self.now.arrivals < 4000000000) × (full ≡ false)) }
     {
-        let Some(i) = find(&self.sessions, Wanted::OpenAs(io.session)) else {
-            return Err(ServiceFault::of(ServiceWhy::NoSuchSession));
-        };
+        let i = self
+            .open_session(io.session)
+            .ok_or(ServiceWhy::NoSuchSession)?;
         if full {
-            return Err(ServiceFault::of(ServiceWhy::WaitingLineFull));
+            return Err(ServiceWhy::WaitingLineFull.into());
         }
         if self.arrivals >= 4_000_000_000 {
-            return Err(ServiceFault::of(ServiceWhy::CountedOut));
+            return Err(ServiceWhy::CountedOut.into());
         }
         Ok(i)
     }
@@ -60,9 +59,7 @@ impl Tables {
     {
         let full = line_full(waiting);
         let i = self.arrival_place(full, io)?;
-        if !waiting.append(io) {
-            return Err(ServiceFault::of(ServiceWhy::WaitingLineFull));
-        }
+        waiting.append(io).map_err(|_| ServiceWhy::WaitingLineFull)?;
         let number = self.sessions[i].accepted;
         self.sessions[i].accept();
         self.arrivals += 1;

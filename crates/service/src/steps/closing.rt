@@ -2,7 +2,6 @@ ghost use Rattle.std.specs.Prelude.{◌≡◌, ◌<◌, IfOk};
 ghost use Rattle.service.specs.Calls.{close_place, close_call};
 
 use crate::fault::{ServiceFault, ServiceWhy};
-use crate::find::{Wanted, find};
 use crate::rows::{Session, Tables};
 
 impl Tables {
@@ -11,14 +10,9 @@ impl Tables {
         ensures is { result ≡ close_place name self.now }
         ensures within { IfOk result (λ i. i < 64) }
     {
-        let Some(i) = find(&self.sessions, Wanted::EndedAs(name)) else {
-            return Err(ServiceFault::of(ServiceWhy::NoSuchSession));
-        };
-        if self.sessions[i].unsent > 0 {
-            return Err(ServiceFault::of(ServiceWhy::NotHandedBack));
-        }
-        if self.sessions[i].inside > 0 {
-            return Err(ServiceFault::of(ServiceWhy::NotHandedBack));
+        let i = self.ended_session(name).ok_or(ServiceWhy::NoSuchSession)?;
+        if self.sessions[i].unsent > 0 || self.sessions[i].inside > 0 {
+            return Err(ServiceWhy::NotHandedBack.into());
         }
         Ok(i)
     }

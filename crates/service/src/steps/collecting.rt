@@ -2,7 +2,6 @@ ghost use Rattle.std.specs.Prelude.{◌≡◌, ◌≤◌};
 ghost use Rattle.service.specs.Calls.{handed_row, hand_back, back_full, Collected, BackAfter, DeviceAfter};
 
 use crate::fault::{ServiceFault, ServiceWhy};
-use crate::find::{Wanted, find};
 use crate::rows::{HandedBack, Session, Tables};
 use device::device::Device;
 use line::Line;
@@ -24,13 +23,14 @@ impl Tables {
         ensures answer { result ≡ (hand_back run self.old).0 }
         ensures leaves { self.new ≡ (hand_back run self.old).1 }
     {
-        let Some(i) = find(&self.sessions, Wanted::PresentAs(run.session)) else {
+        let count = u32::from(run.count);
+        let Some(i) = self.present_session(run.session) else {
             return HandedBack { run, foreign: true };
         };
-        if run.count as u32 > self.sessions[i].inside {
+        if count > self.sessions[i].inside {
             return HandedBack { run, foreign: true };
         }
-        self.sessions[i].hand_back(run.count as u32);
+        self.sessions[i].hand_back(count);
         HandedBack {
             run,
             foreign: false,
@@ -49,15 +49,11 @@ impl Tables {
         ensures line { BackAfter result back.old.places.now back.old.len back.new.places.now back.new.len }
     {
         if back.is_full() {
-            return Err(ServiceFault::of(ServiceWhy::HandBackFull));
+            return Err(ServiceWhy::HandBackFull.into());
         }
-        let Some(run) = device.take() else {
-            return Err(ServiceFault::of(ServiceWhy::NothingDone));
-        };
+        let run = device.take().ok_or(ServiceWhy::NothingDone)?;
         let handed = self.hand_back(run);
-        if !back.append(handed) {
-            return Err(ServiceFault::of(ServiceWhy::HandBackFull));
-        }
+        back.append(handed).map_err(|_| ServiceWhy::HandBackFull)?;
         Ok(handed)
     }
 }

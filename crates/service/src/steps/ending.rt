@@ -2,7 +2,6 @@ ghost use Rattle.std.specs.Prelude.{◌≡◌};
 ghost use Rattle.service.specs.Calls.{end_call};
 
 use crate::fault::{ServiceFault, ServiceWhy};
-use crate::find::{Wanted, find};
 use crate::rows::{State, Tables};
 
 impl Tables {
@@ -11,9 +10,7 @@ impl Tables {
         ensures answer { result ≡ (end_call name self.old).0 }
         ensures leaves { self.new ≡ (end_call name self.old).1 }
     {
-        let Some(i) = find(&self.sessions, Wanted::OpenAs(name)) else {
-            return Err(ServiceFault::of(ServiceWhy::NoSuchSession));
-        };
+        let i = self.open_session(name).ok_or(ServiceWhy::NoSuchSession)?;
         self.sessions[i].state = State::Ended;
         Ok(name)
     }

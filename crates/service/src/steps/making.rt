@@ -29,30 +29,29 @@ impl Tables {
 
     // The number that a new pool gets, or why it is refused.
     fn pool_place(&self, present: Instant, rates: Rates) -> Result<u8, ServiceFault>
-        requires places { self.now.made ≤ 16 }
         ensures { result ≡ pool_place present.micros rates self.now }
     {
         if present.micros < self.latest {
-            return Err(ServiceFault::of(ServiceWhy::InstantBefore));
+            return Err(ServiceWhy::InstantBefore.into());
         }
         if self.made >= 16 {
-            return Err(ServiceFault::of(ServiceWhy::NoPlace));
+            return Err(ServiceWhy::NoPlace.into());
         }
-        if reserves_of(&self.pools[..self.made]) + rates.reserve as u64 > self.throughput as u64 {
-            return Err(ServiceFault::of(ServiceWhy::NoReserve));
+        let reserved = reserves_of(&self.pools[..self.made]);
+        if reserved.saturating_add(rates.reserve.into()) > self.throughput.into() {
+            return Err(ServiceWhy::NoReserve.into());
         }
         Ok(self.made as u8)
     }
 
     // Makes a pool.
     pub(crate) fn make_pool(&mut self, present: Instant, rates: Rates) -> Result<u8, ServiceFault>
-        requires places { self.old.made ≤ 16 }
-        requires numbers { self.old.orders ≤ 8000000016 }
+        requires { self.old.orders ≤ 8000000016 }
         ensures answer { result ≡ (pool_call present.micros rates self.old).0 }
         ensures leaves { self.new ≡ (pool_call present.micros rates self.old).1 }
     {
         let number = self.pool_place(present, rates)?;
-        self.pools[number as usize] = Pool {
+        self.pools[usize::from(number)] = Pool {
             account: Account::new(rates, present, self.orders),
         };
         self.latest = present.micros;

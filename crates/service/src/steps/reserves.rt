@@ -6,14 +6,12 @@ use crate::rows::{Pool, Session};
 // The reserves of some pools, summed.
 pub fn reserves_of(pools: &[Pool]) -> u64
     requires { length pools.now ≤ 16 }
-    ensures is { result ≡ sum_by pool_reserve pools.now }
-    ensures most { result ≤ 68719476720 }
+    ensures { result ≡ sum_by pool_reserve pools.now }
 {
-    let mut sum = 0;
-    for pool in pools {
-        sum += pool.account.reserve as u64;
-    }
-    sum
+    pools
+        .iter()
+        .map(|pool| u64::from(pool.account.reserve))
+        .sum()
 }
 
 // What a row takes of a pool's reserve.
@@ -30,12 +28,7 @@ fn takes_of(row: &Session, pool: u8) -> u32
 // The reserves of a pool's present sessions, summed.
 pub fn reserves_in(rows: &[Session], pool: u8) -> u64
     requires { length rows.now ≤ 64 }
-    ensures is { result ≡ reserves_in pool rows.now }
-    ensures most { result ≤ 274877906880 }
+    ensures { result ≡ reserves_in pool rows.now }
 {
-    let mut sum = 0;
-    for row in rows {
-        sum += takes_of(row, pool) as u64;
-    }
-    sum
+    rows.iter().map(|row| u64::from(takes_of(row, pool))).sum()
 }

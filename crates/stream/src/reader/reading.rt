@@ -6,33 +6,28 @@ use crate::decode::decode;
 use crate::event::Spelled;
 use crate::fault::{StreamFault, StreamWhy};
 use crate::field::Field;
-use crate::number::number_16;
 
 // The field at the front of what is left of a stream from an offset on.
 fn front(offset: usize, left: &[u8]) -> Result<Option<Field>, StreamFault>
     ensures { plainly result ≡ field_from offset left.now }
 {
-    if left.len() == 0 {
-        return Ok(None);
-    }
     let cut_short = StreamFault {
         why: StreamWhy::CutShort,
         offset,
     };
-    if left.len() < 3 {
-        return Err(cut_short);
+    match left {
+        [] => Ok(None),
+        [tag, high, low, values @ ..] => {
+            let length = usize::from(u16::from_be_bytes([*high, *low]));
+            let value = values.get(..length).ok_or(cut_short)?;
+            Ok(Some(Field {
+                offset,
+                tag: *tag,
+                value,
+            }))
+        }
+        _ => Err(cut_short),
     }
-    let length = number_16(&left[1..3]) as usize;
-    let (_, values) = left.split_at(3);
-    if values.len() < length {
-        return Err(cut_short);
-    }
-    let (value, _) = values.split_at(length);
-    Ok(Some(Field {
-        offset,
-        tag: left[0],
-        value,
-    }))
 }
 
 // The field at an offset of the input.
@@ -41,11 +36,11 @@ fn field_at(input: &[u8], offset: usize) -> Result<Option<Field>, StreamFault>
     ensures field { plainly result ≡ field_from offset (drop offset input.now) }
     ensures value { ValueInPlace input.now result }
 {
-    let (_, left) = input.split_at(offset);
-    front(offset, left)
+    front(offset, &input[offset..])
 }
 
 // The event that a field spells, with the field's offset.
+#[tactic(auto, unfolding(crate::specs::Fields::spelled_by))]
 fn spelled(field: Field) -> Result<Spelled, StreamFault>
     ensures { result ≡ spelled_by (plain_field field.entry) }
 {
@@ -72,16 +67,11 @@ impl<'a> Reader<'a> {
         ensures value { ValueInPlace self.old.input.now result }
         ensures moved { self.new.position ≡ offset_after self.old.position (drop self.old.position self.old.input.now) result }
     {
-        let input = self.input;
-        let offset = self.position;
-        match field_at(input, offset) {
-            Ok(Some(field)) => {
-                self.position = offset + 3 + field.value.len();
-                Ok(Some(field))
-            }
-            Ok(None) => Ok(None),
-            Err(fault) => Err(fault),
+        let next = field_at(self.input, self.position)?;
+        if let Some(found) = &next {
+            self.position += 3 + found.value.len();
         }
+        Ok(next)
     }
 
     // Reads the next event, or tells the end; at a fault the reader stays before its field.
@@ -90,17 +80,11 @@ impl<'a> Reader<'a> {
         ensures event { result ≡ event_from self.old.position (drop self.old.position self.old.input.now) }
         ensures moved { self.new.position ≡ offset_after self.old.position (drop self.old.position self.old.input.now) result }
     {
-        let input = self.input;
-        let offset = self.position;
-        match field_at(input, offset) {
-            Ok(Some(field)) => {
-                let spelled = spelled(field)?;
-                let length = field.value.len();
-                self.position = offset + 3 + length;
-                Ok(Some(spelled))
-            }
-            Ok(None) => Ok(None),
-            Err(fault) => Err(fault),
-        }
+        let Some(field) = field_at(self.input, self.position)? else {
+            return Ok(None);
+        };
+        let spelled = spelled(field)?;
+        self.position += 3 + field.value.len();
+        Ok(Some(spelled))
     }
 }

@@ -13,8 +13,8 @@ impl Extent {
     pub fn new(address: u32, length: u8) -> Result<Extent, ValueFault>
         ensures { MatchResult result (λ e. (e.address ≡ address) × (e.length ≡ length)) (λ f. (f ≡ outside_stream) × (Lawful address length → ⊥)) }
     {
-        if length < 1 || length > 64 || address as u64 + length as u64 > Self::LAST {
-            return Err(ValueFault { offset: 0 });
+        if !(1..=64).contains(&length) || u64::from(address) + u64::from(length) > Self::LAST {
+            return Err(ValueFault::OUTSIDE_STREAM);
         }
         Ok(Extent { address, length })
     }
@@ -23,6 +23,6 @@ impl Extent {
     pub fn end(self) -> u32
         ensures { result ≡ end_of self }
     {
-        self.address + self.length as u32
+        self.address + u32::from(self.length)
     }
 }

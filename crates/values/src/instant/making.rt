@@ -13,7 +13,7 @@ impl Instant {
         ensures { MatchResult result (λ t. t.micros ≡ micros) (λ f. (f ≡ outside_stream) × (micros ≤ 1099511627775 → ⊥)) }
     {
         if micros > Self::LAST {
-            return Err(ValueFault { offset: 0 });
+            return Err(ValueFault::OUTSIDE_STREAM);
         }
         Ok(Instant { micros })
     }

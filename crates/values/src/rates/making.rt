@@ -12,10 +12,7 @@ const FASTEST: u32 = 100_000;
 fn limit_allowed(reserve: u32, limit: Option<u32>) -> bool
     ensures { result ≡ limit_allowed reserve limit }
 {
-    match limit {
-        Some(limit) => limit >= 1 && limit <= FASTEST && reserve <= limit,
-        None => true,
-    }
+    limit.is_none_or(|limit| (1..=FASTEST).contains(&limit) && reserve <= limit)
 }
 
 impl Rates {
@@ -23,14 +20,14 @@ impl Rates {
     pub fn new(reserve: u32, limit: Option<u32>, burst: u8) -> Result<Rates, ValueFault>
         ensures { MatchResult result (λ x. (x.reserve ≡ reserve) × (x.limit ≡ limit) × (x.burst ≡ burst)) (λ f. (f ≡ outside_stream) × (rates_allowed reserve limit burst ≡ false)) }
     {
-        if reserve <= FASTEST && limit_allowed(reserve, limit) && burst >= 1 && burst <= 64 {
+        if reserve <= FASTEST && limit_allowed(reserve, limit) && (1..=64).contains(&burst) {
             Ok(Rates {
                 reserve,
                 limit,
                 burst,
             })
         } else {
-            Err(ValueFault { offset: 0 })
+            Err(ValueFault::OUTSIDE_STREAM)
         }
     }
 }

@@ -10,8 +10,8 @@ impl Settings {
     pub fn new(throughput: u32, cap: u8) -> Result<Settings, ValueFault>
         ensures { MatchResult result (λ s. (s.throughput ≡ throughput) × (s.cap ≡ cap)) (λ f. (f ≡ outside_stream) × (settings_allowed throughput cap ≡ false)) }
     {
-        if throughput < 1 || throughput > 100_000 || cap < 1 || cap > 32 {
-            return Err(ValueFault { offset: 0 });
+        if !(1..=100_000).contains(&throughput) || !(1..=32).contains(&cap) {
+            return Err(ValueFault::OUTSIDE_STREAM);
         }
         Ok(Settings { throughput, cap })
     }

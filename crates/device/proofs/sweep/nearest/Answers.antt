@@ -1,19 +1,15 @@
-use Rattle.std.proofs.Common.{◌≡◌, ℕ, ◌-◌, ◌<◌, List, length, get_or, take, ◌∙◌, arith}
-use Rattle.std.proofs.lemmas.List.{length-take, get_or-take}
-use Rattle.order.specs.declared.keys.Distance.{Distance}
-use Rattle.values.specs.declared.io.Run.{Run}
-use Rattle.device.specs.Sweeps.{distance_at}
+use Rattle.std.proofs.Common.{◌≡◌, length, None, subst, rules, MatchOption}
+use Rattle.line.proofs.Arrays.{answers_at}
+use Rattle.device.specs.Sweeps.{key_at, Nearest}
 use Rattle.device.proofs.Sweeping.{nearest_from, only_nearest}
 use Rattle.device.proofs.sweep.nearest.Goals as goal
 
 pub returns : goal.returns
 returns c =
     let arm = c.args.arm in
-    let runs = c.args.runs.now in
-    let n : ℕ = length runs - 0 in
-    let ks : List Distance = take n c.loop-i.keys in
-    let wide = c.loop-i.invariant.0 in
-    let many : length ks ≡ length runs = simp length-take (omega (arith, c.requires)) in
-    let keys : (k : ℕ) (z : Distance) (d : Run) → k < length runs → get_or ks k z ≡ distance_at arm runs k d = λ k z d lt. get_or-take n c.loop-i.keys k z (omega arith) ∙ c.loop-i.invariant.1 k z d (omega arith) in
-    let h = nearest_from arm runs ks many keys c.least.result c.least.ensures in
-    record { chosen = h; only = only_nearest arm runs c.least.result h }
+    let runs = c.as_slice-runs.ensures in
+    let keys = c.from_fn-keys.ensures.items in
+    let place = c.least_candidate.result in
+    let h = nearest_from arm _ c.from_fn-keys.result keys.long runs.1 (λ k lt. answers_at _ (λ k y. y ≡ key_at arm c.as_slice-runs.result.now k) _ (λ i y q called. (search rules, search rules)) _ _ keys k None lt) place c.least_candidate.ensures.chosen in
+    let chosen = subst (λ rs. MatchOption place (length rs ≡ 0) (Nearest arm rs)) runs.0 h in
+    record { chosen = chosen; only = only_nearest arm c.args.runs.now place chosen }

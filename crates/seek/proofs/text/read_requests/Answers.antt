@@ -1,22 +1,11 @@
-use Rattle.std.proofs.Common.{◌≡◌, length, arith}
-use Rattle.seek.proofs.Lines.{reading_shorter, reading_more, reading_all}
+use Rattle.std.proofs.Common.{inl, ap, ◌∙◌, arith}
+use Rattle.seek.specs.declared.lines.Lines.{Lines}
+use Rattle.seek.proofs.Reading.{reading_none}
 use Rattle.seek.proofs.text.read_requests.Goals as goal
 
-pub loop-left-smaller : goal.loop-left-smaller
-loop-left-smaller c =
-    let left = c.loop-left.left.now in
-    let some : length left ≡ 0 → ⊥ = λ e. omega (arith, c.loop-left-test.true) in
-    reading_shorter left _ some c.split.ensures.1
-
-pub loop-left-preserved : goal.loop-left-preserved
-loop-left-preserved c =
-    let left = c.loop-left.left.now in
-    let some : length left ≡ 0 → ⊥ = λ e. omega (arith, c.loop-left-test.true) in
-    let added = c.in_ok-add_line.ensures in
-    reading_more _ _ _ _ _ _ left _ _ some c.loop-left.invariant c.split.ensures.0 c.split.ensures.1 added.runs added.bad
-
-pub returns : goal.returns
-returns c =
-    let left = c.loop-left.left.now in
-    let none : length left ≡ 0 = omega (arith, c.loop-left-test.false) in
-    reading_all _ _ _ _ left none c.loop-left.invariant
+pub loop-line-init : goal.loop-line-init
+loop-line-init c =
+    let made = c.into_iter-line-iterator.ensures.into_iter_gives in
+    let lines = c.enumerate-line-items.ensures in
+    let read = reading_none _ _ _ _ _ (ap (λ e. e.count) made ∙ lines.count) (ap (λ e. e.iter.left.now) made ∙ (ap (λ (s : Lines). s.left.now) lines.source ∙ c.new-3.ensures)) c.new.ensures.items c.new-2.ensures.items in
+    record { can = (tt, tt, inl (omega (arith, read.within))); finite = tt; read = read }

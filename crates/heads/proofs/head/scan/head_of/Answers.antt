@@ -5,8 +5,8 @@ use Rattle.heads.proofs.Growing.{scanned_all, scanned_other, scanned_more, scann
 use Rattle.heads.proofs.head.scan.head_of.Goals as goal
 use Rattle.heads.proofs.head.scan.head_of.Goals.{then-io-name+in-Some, else-io-name}
 
-pub returns-in-None : goal.returns-in-None
-returns-in-None c = scanned_stop _ _ _ _ c.loop-io.invariant _ c.loop-io-test.true c.io-item.is None c.if-io-name.true refl c.in-None.ensures
+pub returns-in_default : goal.returns-in_default
+returns-in_default c = scanned_stop _ _ _ _ c.loop-io.invariant _ c.loop-io-test.true c.io-item.is None c.if-io-name.true refl c.in_default.ensures
 
 pub loop-io-preserved : goal.loop-io-preserved
 loop-io-preserved c =
