@@ -5,6 +5,8 @@ ghost use Rattle.bucket.specs.Pairs.{units_of};
 use bucket::due::{due_mark, release_at};
 use bucket::pair::BucketPair;
 use order::keys::DueMark;
+use std::error::Error;
+use std::fmt;
 use usage::ServiceRecord;
 use values::instant::Instant;
 use values::rates::Rates;
@@ -27,6 +29,18 @@ pub struct Account {
 // Refused: a row's numbers are no pair of buckets.
 #[derive(Clone, Copy, Debug, PartialEq, Eq)]
 pub struct NoPair;
+
+impl fmt::Display for NoPair {
+    ghost use Rattle.std.specs.Prelude.{Some, codes};
+
+    ghost output = { λ _. Some (codes "the numbers are no pair of buckets") };
+
+    fn fmt<W: fmt::Write>(&self, f: &mut fmt::Formatter<W>) -> fmt::Result {
+        f.write_str("the numbers are no pair of buckets")
+    }
+}
+
+impl Error for NoPair {}
 
 impl Account {
     // A new account, with the order number of its first due mark.

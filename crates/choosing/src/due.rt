@@ -26,10 +26,7 @@ fn earlier(own: DueMark, pool: DueMark) -> DueMark
 fn pool_mark(tables: &Tables, number: u8) -> DueMark
     ensures { result ≡ pool_mark tables.now number }
 {
-    tables
-        .pools
-        .get(usize::from(number))
-        .map_or(NEVER, |pool| pool.account.mark)
+    tables.pool(number).map_or(NEVER, |pool| pool.account.mark)
 }
 
 // The earlier of a session's own mark and its pool's.

@@ -28,8 +28,7 @@ fn pool_lets_go(tables: &Tables, number: u8, present: Instant) -> bool
     ensures { result ≡ pool_lets_go tables.now present.micros number }
 {
     tables
-        .pools
-        .get(usize::from(number))
+        .pool(number)
         .is_some_and(|pool| lets_go(&pool.account, present))
 }
 

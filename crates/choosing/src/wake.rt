@@ -25,7 +25,7 @@ fn release_of(account: &Account, present: Instant) -> Option<u64>
 fn pool_release(tables: &Tables, number: u8, present: Instant) -> Option<u64>
     ensures { result ≡ pool_release tables.now present.micros number }
 {
-    let pool = tables.pools.get(usize::from(number))?;
+    let pool = tables.pool(number)?;
     release_of(&pool.account, present)
 }
 

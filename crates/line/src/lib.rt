@@ -4,9 +4,24 @@ ghost use Rattle.std.specs.Prelude.{◌≡◌, ℕ, ◌+◌, ◌<◌, ◌≤◌,
 ghost use Rattle.std.specs.List.{remove};
 ghost use Rattle.line.specs.Line.{records_of, unflagged, Appended, Closed, Removed, AppendedAt, RemovedAt, without};
 
+use std::error::Error;
+use std::fmt;
+
 // Refused: no place of the table is left.
 #[derive(Clone, Copy, Debug, PartialEq, Eq)]
 pub struct LineFull;
+
+impl fmt::Display for LineFull {
+    ghost use Rattle.std.specs.Prelude.{Some, codes};
+
+    ghost output = { λ _. Some (codes "no place is left in the line") };
+
+    fn fmt<W: fmt::Write>(&self, f: &mut fmt::Formatter<W>) -> fmt::Result {
+        f.write_str("no place is left in the line")
+    }
+}
+
+impl Error for LineFull {}
 
 // A line of records over a table that the caller lends: the first `len` places, never more than the table has.
 // Each method says that the table is still the same one (`same`): that compares two moments, which no ghost field or model can say.
@@ -166,7 +181,7 @@ fn is_set(flags: &[bool], at: usize) -> bool
     flags.get(at).copied().unwrap_or(false)
 }
 
-// Puts a record behind the first `len` of a table, which may be an array inside a struct; refused, and nothing changed, where it has no place there.
+// Puts a record behind the first `len` of a table, as an array inside a struct, which a line kept there would have to lend; refused, and nothing changed, where it has no place there.
 pub fn append_at<T: Copy>(places: &mut [T], len: usize, record: T) -> Result<(), LineFull>
     ensures { AppendedAt places.old len «record» places.new result }
 {
@@ -177,7 +192,7 @@ pub fn append_at<T: Copy>(places: &mut [T], len: usize, record: T) -> Result<(),
     line.append(record)
 }
 
-// Takes the record at a place out of the first `len` of a table, which may be an array inside a struct, and closes up.
+// Takes the record at a place out of the first `len` of a table, as an array inside a struct, and closes up.
 pub fn remove_at<T: Copy>(places: &mut [T], len: usize, at: usize) -> Option<T>
     ensures { RemovedAt places.old len at places.new result }
 {

@@ -1,7 +1,7 @@
-ghost use Rattle.std.specs.Prelude.{◌≡◌, ◌<◌, IfSome};
-ghost use Rattle.service.specs.Rows.{is_present, OpenAs, EndedAs, PresentAs, FreePlace, fits, first_fit};
+ghost use Rattle.std.specs.Prelude.{◌≡◌, ◌<◌, ◌≤◌, IfSome, MatchOption};
+ghost use Rattle.service.specs.Rows.{blank_pool, pool as pool_at, is_present, OpenAs, EndedAs, PresentAs, FreePlace, first_fit};
 
-use crate::rows::{Session, State, Tables};
+use crate::rows::{Pool, State, Tables};
 
 impl State {
     // Whether a session is there, open or ended.
@@ -12,37 +12,16 @@ impl State {
     }
 }
 
-// Small tests and look-ups, one for each thing that is looked for, and not one with a closure: each names the definition it meets.
-impl Session {
-    // Whether the place has an open session of a name.
-    fn is_open_as(&self, name: u32) -> bool
-        ensures { result ≡ fits (OpenAs name) self.now }
+impl Tables {
+    // The pool of a number; none past the 16 places.
+    pub fn pool(&self, number: u8) -> Option<&Pool>
+        ensures { MatchOption result ((16 ≤ number) × (pool_at self.now number ≡ blank_pool)) (λ p. (number < 16) × (p.now ≡ pool_at self.now number)) }
     {
-        self.state == State::Open && self.name == name
-    }
-
-    // Whether the place has an ended session of a name.
-    fn is_ended_as(&self, name: u32) -> bool
-        ensures { result ≡ fits (EndedAs name) self.now }
-    {
-        self.state == State::Ended && self.name == name
-    }
-
-    // Whether the place has a session of a name, open or ended.
-    fn is_present_as(&self, name: u32) -> bool
-        ensures { result ≡ fits (PresentAs name) self.now }
-    {
-        self.state.is_present() && self.name == name
-    }
-
-    // Whether the place is free.
-    fn is_free(&self) -> bool
-        ensures { result ≡ fits FreePlace self.now }
-    {
-        self.state == State::Free
+        self.pools.get(usize::from(number))
     }
 }
 
+// A look-up for each thing that is looked for, by its own test; each names the definition that it meets.
 // A place is a number with its bound beside, and no type of its own: the rules count places, and would have to unwrap it everywhere.
 impl Tables {
     // The place of the open session of a name.
@@ -50,7 +29,9 @@ impl Tables {
         ensures is { result ≡ first_fit (OpenAs name) self.now.sessions }
         ensures within { IfSome result (λ i. i < 64) }
     {
-        self.sessions.iter().position(|row| row.is_open_as(name))
+        self.sessions
+            .iter()
+            .position(|row| row.state == State::Open && row.name == name)
     }
 
     // The place of the ended session of a name.
@@ -58,7 +39,9 @@ impl Tables {
         ensures is { result ≡ first_fit (EndedAs name) self.now.sessions }
         ensures within { IfSome result (λ i. i < 64) }
     {
-        self.sessions.iter().position(|row| row.is_ended_as(name))
+        self.sessions
+            .iter()
+            .position(|row| row.state == State::Ended && row.name == name)
     }
 
     // The place of the session of a name, open or ended.
@@ -66,7 +49,9 @@ impl Tables {
         ensures is { result ≡ first_fit (PresentAs name) self.now.sessions }
         ensures within { IfSome result (λ i. i < 64) }
     {
-        self.sessions.iter().position(|row| row.is_present_as(name))
+        self.sessions
+            .iter()
+            .position(|row| row.state.is_present() && row.name == name)
     }
 
     // The first free place.
@@ -74,6 +59,8 @@ impl Tables {
         ensures is { result ≡ first_fit FreePlace self.now.sessions }
         ensures within { IfSome result (λ i. i < 64) }
     {
-        self.sessions.iter().position(|row| row.is_free())
+        self.sessions
+            .iter()
+            .position(|row| row.state == State::Free)
     }
 }

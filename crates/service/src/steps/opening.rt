@@ -14,9 +14,7 @@ impl Tables {
     fn reserve_of(&self, pool: u8) -> u32
         ensures { result ≡ (pool_at self.now pool).account.reserve }
     {
-        self.pools
-            .get(usize::from(pool))
-            .map_or(0, |pool| pool.account.reserve)
+        self.pool(pool).map_or(0, |pool| pool.account.reserve)
     }
 
     // The place that a new session of a pool gets, or why it is refused.
