@@ -23,7 +23,7 @@ impl fmt::Display for LineFull {
 
 impl Error for LineFull {}
 
-// A line of records over a table that the caller lends: the first `len` places, never more than the table has.
+// A line of records over a table that the caller lends, as the rules ask: the first `len` places, never more than the table has.
 // Each method says that the table is still the same one (`same`): that compares two moments, which no ghost field or model can say.
 #[derive(Drop)]
 pub struct Line<'a, T> {
@@ -105,7 +105,7 @@ impl<'a, T: Copy> Line<'a, T> {
         ensures held { Closed (unflagged out.now (records_of self.old.places.now self.old.len)) self.old.places.now self.new.places.now result }
     {
         let mut kept_len = 0;
-        // By places, since the loop writes the slice that it reads.
+        // By places, since the loop writes the slice that it reads. Not one function with `keep_but_first`: see there.
         for i in 0..self.len {
             if !is_set(out, i) {
                 self.places[kept_len] = self.places[i];
@@ -181,7 +181,8 @@ fn is_set(flags: &[bool], at: usize) -> bool
     flags.get(at).copied().unwrap_or(false)
 }
 
-// Puts a record behind the first `len` of a table, as an array inside a struct, which a line kept there would have to lend; refused, and nothing changed, where it has no place there.
+// Puts a record behind the first `len` of a table that is an array inside a struct (a line kept there would have to borrow its own
+// struct); refused, and nothing changed, where it has no place there.
 pub fn append_at<T: Copy>(places: &mut [T], len: usize, record: T) -> Result<(), LineFull>
     ensures { AppendedAt places.old len «record» places.new result }
 {

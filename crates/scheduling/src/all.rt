@@ -21,6 +21,7 @@ pub struct Counts {
 
 // Sends until the device holds its depth or the cap, or no session is free to go; the present instant is the latest accepted one.
 // The four lent places are no struct: its contracts would have to say of each field as well that it still lends the same place.
+// The two counts are the answer, and no index: the sends end where the device holds its most runs or none is free.
 pub(crate) fn send_all<R: SharingRule, D: Device>(
     tables: &mut Tables,
     rule: &R,

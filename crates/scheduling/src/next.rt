@@ -40,6 +40,7 @@ fn send_head<D: Device>(
 {
     let row = tables.sessions[choice.place];
     let run = run_of(&row, head);
+    // There is room, so the device takes the run.
     let _ = device.put(run);
     waiting.take_first(4096, row.name, usize::from(head.count));
     send_from(tables, choice.place, choice.due, head.count);

@@ -31,6 +31,7 @@ pub(crate) fn send_from(tables: &mut Tables, place: usize, due: bool, count: u8)
     };
     let number = tables.orders;
     let row = &mut tables.sessions[place];
+    // Neither account refuses, since both are sound.
     let _ = row.account.send(present, number, due);
     row.unsent -= u32::from(count);
     row.inside += u32::from(count);

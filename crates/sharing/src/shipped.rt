@@ -19,7 +19,7 @@ pub enum Rule {
 pub struct UnknownRule;
 
 impl Rule {
-    // The name of the rule.
+    // The name of the rule. (A method and no conversion: a name is a part of a rule's description.)
     pub fn name(self) -> &'static [u8]
         ensures { result.now ≡ rule_name self }
     {

@@ -47,7 +47,7 @@ fn open(alloc: Global, instant: u64, pool: u8, rates: SpelledRates) -> Result<Ve
     Ok(value)
 }
 
-// The value of an arrival.
+// The value of an arrival. (Its direction is a number here, as the event has it.)
 fn arrival(
     alloc: Global,
     session: u32,

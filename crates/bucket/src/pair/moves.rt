@@ -43,7 +43,7 @@ impl BucketPair {
     }
 
     // The pair that a table's plain numbers stand for; none exactly where they are no pair.
-    // (No conversion of one value: the numbers of a row come from three of its fields.)
+    // (No conversion of one value: the pair is made of rates and two numbers.)
     pub fn from_units(rates: Rates, reserve: u64, limit: Option<u64>) -> Option<BucketPair>
         ensures { MatchOption result (is_pair rates.burst rates.limit reserve limit ≡ false) (λ p. (is_pair rates.burst rates.limit reserve limit ≡ true) × (p.rates ≡ rates) × (p.reserve ≡ reserve) × (p.limit ≡ limit)) }
     {

@@ -44,7 +44,7 @@ impl Growing {
     }
 }
 
-// What an I/O makes of the runs of all places.
+// What an I/O makes of the runs of all places. (They stand beside the names in fixed memory, since they follow from the waiting line.)
 fn meet(growing: &mut [Growing; 64], names: &[Option<u32>; 64], io: Io)
     ensures { (k : ℕ) (ios : List Io) → k < 64 → final_at growing.new names.now k ios ≡ final_at growing.old names.now k (io ∷ ios) }
 {

@@ -27,7 +27,7 @@ impl Session {
 }
 
 impl Tables {
-    // The place of the session that an I/O arrives at, or why it is refused.
+    // The place of the session that an I/O arrives at, with its bound beside (see find.rt), or why it is refused.
     fn arrival_place(&self, full: bool, io: Io) -> Result<usize, ServiceFault>
         ensures is { result ≡ arrival_place full io self.now }
         ensures within { IfOk result (λ i. i < 64) }
@@ -45,7 +45,7 @@ impl Tables {
         Ok(i)
     }
 
-    // Accepts an I/O into the waiting line.
+    // Accepts an I/O into the waiting line, over the same table (which compares two moments: no ghost field can say it).
     pub(crate) fn arrival(
         &mut self,
         waiting: &mut Line<'_, Io>,

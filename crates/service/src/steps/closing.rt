@@ -5,7 +5,7 @@ use crate::fault::{ServiceFault, ServiceWhy};
 use crate::rows::{Session, Tables};
 
 impl Tables {
-    // The place of the ended session of a name that has no I/O left, or why it is refused.
+    // The place of the ended session of a name that has no I/O left, with its bound beside (see find.rt), or why it is refused.
     fn close_place(&self, name: u32) -> Result<usize, ServiceFault>
         ensures is { result ≡ close_place name self.now }
         ensures within { IfOk result (λ i. i < 64) }

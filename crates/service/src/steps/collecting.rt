@@ -37,7 +37,7 @@ impl Tables {
         }
     }
 
-    // Takes one done run off the device and adds it to the hand-back line.
+    // Takes one done run off the device and adds it to the hand-back line, over the same table (as at an arrival).
     pub(crate) fn collect<D: Device>(
         &mut self,
         device: &mut D,

@@ -17,7 +17,7 @@ impl Tables {
         self.pool(pool).map_or(0, |pool| pool.account.reserve)
     }
 
-    // The place that a new session of a pool gets, or why it is refused.
+    // The place that a new session of a pool gets, with its bound beside (see find.rt), or why it is refused.
     fn place_for(&self, pool: u8, rates: Rates) -> Result<usize, ServiceFault>
         ensures is { result ≡ place_for pool rates self.now (first_fit FreePlace self.now.sessions) }
         ensures within { IfOk result (λ i. i < 64) }
@@ -34,7 +34,7 @@ impl Tables {
         Ok(i)
     }
 
-    // The place that a new session gets, or why it is refused.
+    // The place that a new session gets, with its bound beside (see find.rt), or why it is refused.
     fn open_place(&self, present: Instant, pool: u8, rates: Rates) -> Result<usize, ServiceFault>
         ensures is { result ≡ open_place present.micros pool rates self.now }
         ensures within { IfOk result (λ i. i < 64) }
