@@ -4,10 +4,11 @@ use Rattle.std.specs.List.{remove}
 use Rattle.values.specs.declared.io.Run.{Run}
 use Rattle.device.specs.declared.bay.Bay.{Bay}
 use Rattle.device.specs.Meaning.{Meaning}
+use Rattle.device.specs.Runs.{runs_of}
 
 -- the runs at work in the order of putting, and those done in the order of being done
 abbrev pub bay_means : Bay → Meaning
-bay_means b = record { working = b.at_work; done = b.done; depth = b.depth }
+bay_means b = record { working = runs_of b.at_work; done = runs_of b.done; depth = b.depth }
 
 -- a run joined those at work, behind the others
 abbrev pub joined : Meaning → Run → Meaning

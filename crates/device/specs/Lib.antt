@@ -1,4 +1,5 @@
 pub mod Meaning
+pub mod Runs
 pub mod Bays
 pub mod Sweeps
 pub mod Disks

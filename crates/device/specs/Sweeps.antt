@@ -1,6 +1,5 @@
 -- The run that an elevator's arm goes to next.
-use Rattle.std.specs.Prelude.{ℕ, ◌+◌, ◌-◌, ◌%◌, ◌^◌, ◌<◌, ◌≤◌, List, length, Option, slice_get, slice_index_or}
-use Rattle.std.specs.Option.{option_map}
+use Rattle.std.specs.Prelude.{ℕ, ◌+◌, ◌-◌, ◌%◌, ◌^◌, ◌<◌, ◌≤◌, List, length, slice_index_or}
 use Rattle.order.specs.declared.keys.Distance.{Distance}
 use Rattle.values.specs.declared.io.Run.{Run}
 
@@ -17,7 +16,3 @@ pub record Nearest (arm : ℕ) (runs : List Run) (place : ℕ) : Type 0 where
 -- the key of the run at a place: its distance, and the place, which is the order of putting
 abbrev pub distance_at : ℕ → List Run → ℕ → Run → Distance
 distance_at arm runs k d = record { sectors = away arm (slice_index_or runs k d); place = k }
-
--- the key at a place, none where no run stands there
-abbrev pub key_at : ℕ → List Run → ℕ → Option Distance
-key_at arm runs k = option_map (λ run. distance_at arm runs k run) (slice_get runs k)

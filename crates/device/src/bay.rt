@@ -1,4 +1,5 @@
 ghost use Rattle.std.specs.Prelude.{◌+◌, ◌≤◌, length};
+ghost use Rattle.device.specs.Runs.{runs_of};
 
 use crate::runs::Runs;
 
@@ -11,7 +12,7 @@ pub struct Bay {
     at_work: Runs,
     done: Runs,
     depth: usize,
-    ghost few: { length at_work + length done ≤ depth },
+    ghost few: { length (runs_of at_work) + length (runs_of done) ≤ depth },
     ghost deep: { 1 ≤ depth },
     ghost fits: { depth ≤ 32 },
 }

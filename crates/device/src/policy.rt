@@ -1,4 +1,5 @@
 ghost use Rattle.std.specs.Prelude.{◌≡◌, ℕ, ◌<◌, List, length, MatchOption};
+ghost use Rattle.device.specs.Runs.{runs_of};
 ghost use Rattle.values.specs.declared.io.Run.{Run};
 
 use crate::runs::Runs;
@@ -13,7 +14,7 @@ pub trait Policy {
 
     // The place of the run to serve next; none exactly where there are no runs.
     fn pick(&self, runs: &Runs) -> Option<usize>
-        ensures { MatchOption result (length runs.now ≡ 0) (λ place. (place < length runs.now) × picks self.now runs.now place) };
+        ensures { MatchOption result (length (runs_of runs.now) ≡ 0) (λ place. (place < length (runs_of runs.now)) × picks self.now (runs_of runs.now) place) };
 
     // Takes note of a run that was served.
     fn served(&mut self, run: Run)

@@ -1,35 +1,29 @@
-ghost use Rattle.std.specs.Prelude.{◌≡◌, ◌<◌, ◌≤◌, [], ◌∷◌, ◌++◌, length, ◌==◌, slice_index_or, MatchOption};
-ghost use Rattle.std.specs.List.{remove};
+ghost use Rattle.std.specs.Prelude.{◌≡◌, ◌≤◌, length};
 
 use line::remove_at;
-use std::marker::Model;
 use values::direction::Direction;
 use values::extent::Extent;
 use values::io::Run;
 
-// Up to 32 runs in their order, in a table inside the value.
+// Up to 32 runs in their order, in a table inside the value. No model, which would see a list alone: that a refused call
+// leaves a value equal to what it was is said of the whole table, the places that hold no run too.
 // No `ArrayVec`: it fills its unused places with default elements, and there is no default run.
 #[derive(Drop)]
 pub struct Runs {
     places: [Run; 32],
     len: usize,
-}
-
-impl Model for Runs {
-    ghost use Rattle.std.specs.Prelude.{◌≡◌, ◌≤◌, List, length, take};
-    ghost use Rattle.values.specs.declared.io.Run.{Run};
-
-    ghost Value = { List Run };
-
-    ghost view = { λ r. take r.len r.places };
-
-    ghost invariant = { λ r. (r.len ≤ 32) × (length r.places ≡ 32) };
+    ghost few: { len ≤ 32 },
+    ghost wide: { length places ≡ 32 },
 }
 
 impl Runs {
+    ghost use Rattle.std.specs.Prelude.{◌<◌, [], ◌∷◌, ◌++◌, ◌==◌, slice_index_or, MatchOption};
+    ghost use Rattle.std.specs.List.{remove};
+    ghost use Rattle.device.specs.Runs.{runs_of};
+
     // No runs.
     pub(crate) fn new() -> Runs
-        ensures { result ≡ [] }
+        ensures { runs_of result ≡ [] }
     {
         let blank = Run {
             session: 0,
@@ -49,29 +43,29 @@ impl Runs {
 
     // How many runs there are.
     pub fn len(&self) -> usize
-        ensures { result ≡ length self.now }
+        ensures { result ≡ length (runs_of self.now) }
     {
         self.as_slice().len()
     }
 
     // Whether there are none.
     pub fn is_empty(&self) -> bool
-        ensures { result ≡ (length self.now == 0) }
+        ensures { result ≡ (length (runs_of self.now) == 0) }
     {
         self.len == 0
     }
 
     // The runs, in their order.
     pub fn as_slice(&self) -> &[Run]
-        ensures { (result.now ≡ self.now) × (length result.now ≤ 32) }
+        ensures { (result.now ≡ runs_of self.now) × (length result.now ≤ 32) }
     {
         &self.places[..self.len]
     }
 
     // Adds a run behind the others.
     pub(crate) fn push(&mut self, run: Run)
-        requires { length self.old < 32 }
-        ensures { self.new ≡ self.old ++ run ∷ [] }
+        requires { length (runs_of self.old) < 32 }
+        ensures { runs_of self.new ≡ runs_of self.old ++ run ∷ [] }
     {
         self.places[self.len] = run;
         self.len += 1;
@@ -79,7 +73,7 @@ impl Runs {
 
     // Takes out the run at a place; none, and nothing changed, exactly where no run stands there.
     pub(crate) fn pop_at(&mut self, place: usize) -> Option<Run>
-        ensures { MatchOption result ((length self.old ≤ place) × (self.new ≡ self.old)) (λ run. (place < length self.old) × (run ≡ slice_index_or self.old place run) × (self.new ≡ remove self.old place)) }
+        ensures { MatchOption result ((length (runs_of self.old) ≤ place) × (self.new ≡ self.old)) (λ run. (place < length (runs_of self.old)) × (run ≡ slice_index_or (runs_of self.old) place run) × (runs_of self.new ≡ remove (runs_of self.old) place)) }
     {
         let run = remove_at(&mut self.places, self.len, place)?;
         self.len -= 1;

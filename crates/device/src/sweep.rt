@@ -1,10 +1,10 @@
 ghost use Rattle.std.specs.Prelude.{◌≡◌, ℕ, ◌+◌, ◌-◌, ◌%◌, ◌^◌, length, Some, MatchOption};
-ghost use Rattle.device.specs.Sweeps.{away, Nearest, key_at};
+ghost use Rattle.device.specs.Runs.{runs_of};
+ghost use Rattle.device.specs.Sweeps.{away, Nearest};
 
 use crate::runs::Runs;
 use order::keys::Distance;
-use order::least::least_candidate;
-use std::array;
+use order::least::least;
 use values::io::Run;
 
 // How far the arm goes up to a run, round the end of the disk.
@@ -14,23 +14,22 @@ fn distance(arm: u32, run: Run) -> u32
     run.extent.address.wrapping_sub(arm)
 }
 
-// The key of the run at a place: its distance, and the place, which is the order of putting.
-fn key_at(arm: u32, runs: &[Run], place: usize) -> Option<Distance>
-    ensures { result ≡ key_at arm runs.now place }
-{
-    let run = runs.get(place)?;
-    Some(Distance {
-        sectors: distance(arm, *run),
-        place,
-    })
-}
-
 // The place of the run that the arm meets first, the first put among equals: the only one that is so.
 pub fn nearest(arm: u32, runs: &Runs) -> Option<usize>
-    ensures chosen { MatchOption result (length runs.now ≡ 0) (λ place. Nearest arm runs.now place) }
-    ensures only { (place : ℕ) → Nearest arm runs.now place → result ≡ Some place }
+    ensures chosen { MatchOption result (length (runs_of runs.now) ≡ 0) (λ place. Nearest arm (runs_of runs.now) place) }
+    ensures only { (place : ℕ) → Nearest arm (runs_of runs.now) place → result ≡ Some place }
 {
     let runs = runs.as_slice();
-    let keys: [Option<Distance>; 32] = array::from_fn(|place| key_at(arm, runs, place));
-    least_candidate(&keys)
+    let mut keys = [Distance {
+        sectors: 0,
+        place: 0,
+    }; 32];
+    // As many keys as there are runs: `array::from_fn` would make and compare 32 for a single one.
+    for (place, run) in runs.iter().enumerate() {
+        keys[place] = Distance {
+            sectors: distance(arm, *run),
+            place,
+        };
+    }
+    least(&keys[..runs.len()])
 }

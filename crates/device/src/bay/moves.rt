@@ -1,6 +1,7 @@
 ghost use Rattle.std.specs.Prelude.{◌≡◌, ◌<◌, ◌≤◌, [], length, MatchOption, MatchResult};
 ghost use Rattle.device.specs.Bays.{bay_means, joined, Finished, TookFirst};
 ghost use Rattle.device.specs.Meaning.{held_by};
+ghost use Rattle.device.specs.Runs.{runs_of};
 
 use super::Bay;
 use crate::device::DeviceFull;
@@ -36,7 +37,7 @@ impl Bay {
 
     // The runs at work, in the order of putting.
     pub fn at_work(&self) -> &Runs
-        ensures { result.now ≡ (bay_means self.now).working }
+        ensures { runs_of result.now ≡ (bay_means self.now).working }
     {
         &self.at_work
     }
