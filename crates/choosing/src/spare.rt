@@ -30,21 +30,13 @@ fn note(has_free: &mut [bool; 16], number: u8, free: bool)
 }
 
 impl FreePlaces<'_> {
-    // The level of an account, with the name of what has it, if that is one to choose among.
-    fn level_key<R: SharingRule>(
-        &self,
-        rule: &R,
-        account: &Account,
-        name: u32,
-        wanted: bool,
-    ) -> Option<Level>
-        ensures { result ≡ (if wanted then Some (named_level (R.level rule.now) self.now.present.micros account.now name) else None) }
+    // The level of an account, with the name of what has it. (Asked only of those to choose among: it costs the most of a choice.)
+    fn named_level<R: SharingRule>(&self, rule: &R, account: &Account, name: u32) -> Level
+        ensures { result ≡ named_level (R.level rule.now) self.now.present.micros account.now name }
     {
-        if wanted {
-            let level = level_at(rule, account, self.present);
-            Some(Level { level, name })
-        } else {
-            None
+        Level {
+            level: level_at(rule, account, self.present),
+            name,
         }
     }
 
@@ -53,8 +45,12 @@ impl FreePlaces<'_> {
         requires { number < 16 }
         ensures { result ≡ (if has_free then Some (pool_level (R.level rule.now) self.now.tables.now self.now.present.micros number) else None) }
     {
-        let account = &self.tables.pools[number].account;
-        self.level_key(rule, account, number as u32, has_free)
+        if has_free {
+            let account = &self.tables.pools[number].account;
+            Some(self.named_level(rule, account, number as u32))
+        } else {
+            None
+        }
     }
 
     // The key of a free session of a pool, by its name.
@@ -67,8 +63,11 @@ impl FreePlaces<'_> {
     ) -> Option<Level>
         ensures { result ≡ (if free && row.now.pool == pool then Some (row_level (R.level rule.now) self.now.present.micros row.now) else None) }
     {
-        let wanted = free && usize::from(row.pool) == pool;
-        self.level_key(rule, &row.account, row.name, wanted)
+        if free && usize::from(row.pool) == pool {
+            Some(self.named_level(rule, &row.account, row.name))
+        } else {
+            None
+        }
     }
 
     // Which pools have a free session, by one pass over the sessions: in fixed memory, beside the table of pools.

@@ -1,10 +1,12 @@
-ghost use Rattle.std.specs.Prelude.{◌≡◌, ℕ, ◌<◌, List, ◌∷◌};
+ghost use Rattle.std.specs.Prelude.{◌≡◌, ℕ, ◌<◌, List, ◌∷◌, slice_index_or};
 ghost use Rattle.heads.specs.Heads.{HeadsOf, head_says};
 ghost use Rattle.heads.specs.Places.{final_at, finally_from, found};
+ghost use Rattle.heads.specs.declared.head.at_once.Growing.TheVariants.{Empty};
 ghost use Rattle.std.specs.Option.{option_map};
 ghost use Rattle.values.specs.declared.io.Io.{Io};
 
 use super::Head;
+use std::array;
 use values::io::Io;
 
 // A head run that is being found: none yet, one that the next I/O may join, or one that is over.
@@ -63,5 +65,11 @@ pub fn heads_at_once(waiting: &[Io], names: &[Option<u32>; 64]) -> [Option<Head>
     for io in waiting {
         meet(&mut growing, names, *io);
     }
-    growing.map(Growing::found)
+    // (Not `map`, which moves the array into an iterator first: that costs more than a short line.)
+    array::from_fn(
+        |place|
+            requires { place < 64 }
+            ensures { option_map head_says result ≡ found (slice_index_or growing place Empty) }
+        { growing[place].found() },
+    )
 }

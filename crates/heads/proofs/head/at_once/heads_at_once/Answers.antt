@@ -1,5 +1,9 @@
-use Rattle.std.proofs.Common.{None, refl, ◌∙◌, arith, rules}
+use Rattle.std.proofs.Common.{◌≡◌, get_or, None, refl, ◌∙◌, arith, rules}
+use Rattle.std.specs.Option.{option_map}
+use Rattle.line.proofs.Arrays.{answers_at}
 use Rattle.heads.proofs.AtOnce.{starts, goes_on, ends}
+use Rattle.heads.specs.Heads.{head_says}
+use Rattle.heads.specs.Places.{found}
 use Rattle.heads.specs.declared.head.at_once.Growing.TheVariants.{Empty}
 use Rattle.heads.proofs.head.at_once.heads_at_once.Goals as goal
 
@@ -11,5 +15,6 @@ loop-io-preserved c = (omega arith, λ k lt. goes_on c.loop-io.growing c.meet.ne
 
 pub returns : goal.returns
 returns c = λ k lt.
-    let called = c.map.ensures.items.at k Empty None lt in
-    search rules ∙ ends c.loop-io.growing c.args.names.now c.args.waiting.now c.loop-io.io-index k _ c.loop-io-test.false (c.loop-io.invariant.1 k lt)
+    let growing = c.loop-io.growing in
+    let told = answers_at _ (λ i y. option_map head_says y ≡ found (get_or growing i Empty)) _ (λ i y q called. (search rules, search rules)) _ _ c.from_fn.ensures.items k None lt in
+    told ∙ ends growing c.args.names.now c.args.waiting.now c.loop-io.io-index k _ c.loop-io-test.false (c.loop-io.invariant.1 k lt)
