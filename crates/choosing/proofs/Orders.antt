@@ -2,7 +2,7 @@
 use Rattle.std.proofs.Common.{◌≡◌, Bool, false, ltb, arith, rules}
 use Rattle.choosing.specs.Right.{NotAbove}
 use Rattle.order.specs.Keys.{mark_before, level_before}
-use Rattle.order.specs.Order.{then_by}
+use Rattle.order.specs.Order.{missing_last, then_by}
 use Rattle.order.specs.declared.keys.Level.{Level}
 use Rattle.std.proofs.lemmas.Bool.Decides.{nat_tests}
 use Rattle.std.specs.Cmp.{IsStrictWeakOrder}
@@ -18,6 +18,13 @@ ranks_mark = search rules
 
 ranks_then : {X Y : Type 0} (f : X → X → Bool) (g : Y → Y → Bool) → IsStrictWeakOrder f → IsStrictWeakOrder g → IsStrictWeakOrder (then_by f g)
 ranks_then f g o p = search rules
+
+ranks_missing : {X : Type 0} (f : X → X → Bool) → IsStrictWeakOrder f → IsStrictWeakOrder (missing_last f)
+ranks_missing f o = search rules
+
+-- an order of what is seen of each
+ranks_seen : {X Y : Type 0} (f : Y → Y → Bool) (see : X → Y) → IsStrictWeakOrder f → IsStrictWeakOrder (λ x y. f (see x) (see y))
+ranks_seen f see o = record { one_way = λ x y. o.one_way (see x) (see y); chain = λ x y z. o.chain (see x) (see y) (see z) }
 
 pub ranks_marks : IsStrictWeakOrder (then_by mark_before mark_before)
 ranks_marks = ranks_then mark_before mark_before ranks_mark ranks_mark

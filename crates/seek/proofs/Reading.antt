@@ -1,5 +1,5 @@
 -- A text read line by line.
-use Rattle.std.proofs.Common.{◌≡◌, ℕ, suc, ◌+◌, ◌≤◌, Bool, true, false, cond, eqb, List, [], ◌∷◌, ◌++◌, map, length, sym, refl, ap, ◌∙◌, arith}
+use Rattle.std.proofs.Common.{◌≡◌, ℕ, suc, ◌+◌, ◌<◌, ◌≤◌, Bool, true, false, cond, eqb, List, [], ◌∷◌, ◌++◌, map, length, sym, refl, ap, ◌∙◌, arith}
 use Rattle.values.specs.declared.io.Run.{Run}
 use Rattle.seek.specs.declared.text.BadLine.{BadLine}
 use Rattle.seek.specs.Requests.{before_byte, after_byte}
@@ -23,6 +23,19 @@ first_line b (c ∷ bs) = let h = first_line c bs in front_line b (c ∷ bs) (be
 pub line_first : (left line after : List ℕ) → (length left ≡ 0 → ⊥) → line ≡ before_byte 10 left → after ≡ after_byte 10 left → lines_of left ≡ line ∷ lines_of after
 line_first [] line after some l a = absurd (some refl)
 line_first (b ∷ bs) line after some l a = first_line b bs ∙ (λ t. sym l t ∷ lines_of (sym a t))
+
+-- what is left behind a line has fewer bytes
+either_shorter : (xs ys : List ℕ) (n : ℕ) (t : Bool) → length xs < n → length ys < n → length (cond t xs ys) < n
+either_shorter xs ys n true p q = p
+either_shorter xs ys n false p q = q
+
+after_less : (b : ℕ) (bs : List ℕ) → length (after_byte 10 (b ∷ bs)) < length (b ∷ bs)
+after_less b [] = either_shorter [] [] 1 (eqb b 10) (omega arith) (omega arith)
+after_less b (c ∷ bs) = let h = after_less c bs in either_shorter (c ∷ bs) (after_byte 10 (c ∷ bs)) (length (b ∷ c ∷ bs)) (eqb b 10) (omega arith) (omega arith)
+
+pub reading_shorter : (left after : List ℕ) → (length left ≡ 0 → ⊥) → after ≡ after_byte 10 left → length after < length left
+reading_shorter [] after some e = absurd (some refl)
+reading_shorter (b ∷ bs) after some e = let h = after_less b bs in let l = ap length e in omega arith
 
 -- each line has a byte at least, its newline or one of its own
 front_few : (b n : ℕ) (lines : List (List ℕ)) (t : Bool) → length lines ≤ n → length (cond t ([] ∷ lines) (in_front b lines)) ≤ suc n
